@@ -3,31 +3,30 @@ use Rattle.std.specs.Prelude.{◌≡◌, Bool, true, false, Option, None, Some, 
 use Rattle.camp_base.specs.declared.faults.Apply.{Apply}
 use Rattle.camp_base.specs.declared.faults.Apply.TheVariants.{DoesNotApply, Memory}
 
--- Ok: the change leads from the old value to the new one; DoesNotApply: it leads from the old value to none;
--- Memory: it applies, but memory ran out; an error leaves the value unchanged
+-- Ok: the change leads from the old value to the new one. DoesNotApply: it leads nowhere from the old value. Memory: it
+-- would apply, but memory ran out. After an error the value is unchanged.
 abbrev pub Answers : {S : Type 0} → (S → S → Type 0) → S → Result (Unit {0}) Apply → S → Type 0
 Answers Change old (Ok done) new = Change old new
 Answers Change old (Err DoesNotApply) new = ((any : _) → ¬ (Change old any)) × (new ≡ old)
 Answers Change old (Err Memory) new = ((any : _) × Change old any) × (new ≡ old)
 
--- the same where only a trial that allocates can say whether the change applies: out of memory may be the
--- result in any case
+-- the same if only a trial that allocates can decide whether the change applies: any result may be out of memory
+-- instead
 abbrev pub AnswersByTrial : {S : Type 0} → (S → S → Type 0) → S → Result (Unit {0}) Apply → S → Type 0
 AnswersByTrial Change old (Ok done) new = Change old new
 AnswersByTrial Change old (Err DoesNotApply) new = ((any : _) → ¬ (Change old any)) × (new ≡ old)
 AnswersByTrial Change old (Err Memory) new = new ≡ old
 
--- true: the change leads from the old value to the new one; false: it leads to none, and the value is
--- unchanged
+-- true: the change leads from the old value to the new one. false: it leads nowhere, and the value is unchanged
 abbrev pub Changes : {S : Type 0} → (S → S → Type 0) → S → Bool → S → Type 0
 Changes Change old true new = Change old new
 Changes Change old false new = ((any : _) → ¬ (Change old any)) × (new ≡ old)
 
--- Some with a value in the relation, or None if no value is
+-- Some: a value in the relation. None: no value is in it
 abbrev pub Finds : {X : Type 0} → (X → Type 0) → Option X → Type 0
 Finds Result None = (any : _) → ¬ (Result any)
 Finds Result (Some found) = Result found
 
--- the same for pairs
+-- the same for a pair of values
 abbrev pub FindsPair : {X Y : Type 0} → (X → Y → Type 0) → Option (X × Y) → Type 0
 FindsPair Results found = Finds (λ pair. Results pair.0 pair.1) found

@@ -9,7 +9,7 @@ use Rattle.camp_base.specs.Signs.{newline, hyphen, dot, slash, is_digit, is_grap
 abbrev pub is_name_byte : ℕ → Bool
 is_name_byte byte = is_small_letter byte || (is_digit byte || byte == hyphen)
 
--- bytes are a name: 1 to 40 of those, the first not `-`
+-- bytes are a name: 1 to 40 bytes of a name, the first not `-`
 abbrev pub is_name : List ℕ → Bool
 is_name bytes =
     not (length bytes == 0) && (not (slice_index bytes 0 == hyphen)
@@ -21,7 +21,7 @@ is_path_part part =
     not (length part == 0) && (not (pointwise ◌==◌ part (dot ∷ []))
     && not (pointwise ◌==◌ part (dot ∷ dot ∷ [])))
 
--- the components of a path
+-- the components of a path: the bytes between `/`
 abbrev pub path_parts : List ℕ → List (List ℕ)
 path_parts bytes = slice_split (λ byte. byte == slash) bytes
 

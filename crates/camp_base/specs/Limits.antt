@@ -1,7 +1,7 @@
 -- Limits that several crates use.
 use Rattle.std.specs.Prelude.{ℕ, ◌^◌}
 
--- the most changes of a patch; the fewest are one
+-- the most changes of a patch; it has at least one
 abbrev pub most_changes : ℕ
 most_changes = 64
 

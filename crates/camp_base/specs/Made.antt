@@ -3,7 +3,7 @@ use Rattle.std.specs.Prelude.{◌≡◌, ℕ, Bool, true, false, List, Result, O
 use Rattle.camp_base.specs.declared.faults.BaseFault.{BaseFault}
 use Rattle.camp_base.specs.declared.faults.BaseFault.TheVariants.{Memory}
 
--- if the bytes are valid, a value of exactly these bytes or out of memory; if not, the given error
+-- valid bytes give a value of exactly these bytes, or out of memory; any others give this error
 abbrev pub Makes : Bool → BaseFault → List ℕ → Result (List ℕ) BaseFault → Type 0
 Makes true fault bytes (Ok made) = made ≡ bytes
 Makes true fault bytes (Err other) = other ≡ Memory

@@ -29,7 +29,7 @@ dot = 46
 abbrev pub slash : ℕ
 slash = 47
 
--- `0`, followed by the other digits
+-- `0`, the first of the decimal digits
 abbrev pub digit_zero : ℕ
 digit_zero = 48
 
@@ -45,11 +45,11 @@ backslash = 92
 abbrev pub underscore : ℕ
 underscore = 95
 
--- `a`, followed by the other small letters
+-- `a`, the first of the small letters
 abbrev pub small_a : ℕ
 small_a = 97
 
--- a byte is in the range from low to high
+-- a byte is between `low` and `high`, both included
 abbrev pub is_between : ℕ → ℕ → ℕ → Bool
 is_between low high byte = nat_le low byte && nat_le byte high
 
@@ -65,7 +65,7 @@ is_capital_letter byte = is_between 65 90 byte
 abbrev pub is_small_letter : ℕ → Bool
 is_small_letter byte = is_between small_a 122 byte
 
--- a byte is a printable character of ASCII but no space: `!` to `~`
+-- a byte is a printable character of ASCII except a space: `!` to `~`
 abbrev pub is_graphic : ℕ → Bool
 is_graphic byte = is_between 33 126 byte
 

@@ -22,8 +22,7 @@ pub record Removes (path : List ℕ) (old new : Files) : Type 0 where
   pub empty : get old path ≡ Some []
   pub becomes : new ≡ remove old path
 
--- replacing the lines `gone` by `come` at a line, counted from 1; the lines before and after them are
--- unchanged
+-- replacing the lines `gone` by `come` at a line, counted from 1; the lines before and after them stay
 pub record SplicesLines (line : ℕ) (gone come old new : Lines) : Type 0 where
   pub before : Lines
   pub after : Lines

@@ -19,7 +19,7 @@ pub enum BaseFault {
     Memory,
 }
 
-/// Why a change was not applied to a tree. The tree is unchanged.
+/// Why a change was not applied to a tree, which is then unchanged.
 #[derive(Clone, Copy, PartialEq, Eq, Debug, Error)]
 pub enum Apply {
     #[error("the change does not apply")]

@@ -1,4 +1,4 @@
-//! Names, paths, lines, and trees of files: the values that patches are about.
+//! Names, paths, lines, and trees of files.
 #![tactic(auto)]
 
 mod bytes;

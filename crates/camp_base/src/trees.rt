@@ -67,8 +67,8 @@ impl Tree {
         Some(lines)
     }
 
-    /// Returns the file at `index` in the order of the paths, with its path; `None` past the end. Searches
-    /// the tree from its start each time; `iter` visits all files in one pass.
+    /// Returns the file at `index` in the order of the paths, with its path; `None` past the end. Each call searches
+    /// the tree from its start; `iter` visits all files in one pass.
     pub fn at(&self, index: usize) -> Option<(&Path, &SharedList<Line>)>
         ensures exact { MatchOption result
             (slice_get (map.entries self.now) index ≡ None)
@@ -150,7 +150,7 @@ impl Tree {
         Ok(Tree { files })
     }
 
-    // Writes the lines of the file at a path, whether or not there was one.
+    // Sets the lines of the file at a path, which may be new.
     fn write(&mut self, path: &Path, lines: SharedList<Line>) -> Result<(), Apply>
         ensures { Steps (map.insert self.old path.now lines) self.old result self.new }
     {

@@ -4,8 +4,8 @@ use Rattle.camp_catch.specs.Arranging.{Align}
 use Rattle.camp_catch.specs.Laws.{keys_of}
 use Rattle.camp_catch.specs.declared.catches.Catch.{Catch}
 
--- the first n catches of both branches are the same patches in the same state: those of `from`, in the order
--- of `to`, are those of `to`
+-- the first n catches of both branches are the same patches in the same state: the first n of `from`, put in the order
+-- of those of `to`, equal the first n of `to`
 pub record Agree (from to : List Catch) (n : ℕ) : Type 0 where
   pub within : n ≤ length from
   pub within_too : n ≤ length to
@@ -17,6 +17,6 @@ pub record BeginAlike (from to : List Catch) (n : ℕ) : Type 0 where
   pub within_too : n ≤ length to
   pub same : take n from ≡ take n to
 
--- n is at least `known` plus the number of catches after it that are the same in both lists
+-- n is at least `known` plus the number of catches that are the same in both lists from index `known` on
 abbrev pub ReachesAll : List Catch → List Catch → ℕ → ℕ → Type 0
 ReachesAll from to known n = (more : ℕ) → BeginAlike (drop known from) (drop known to) more → known + more ≤ n

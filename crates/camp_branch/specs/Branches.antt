@@ -17,11 +17,11 @@ use Rattle.camp_catch.specs.declared.catches.Catch.TheVariants.{Plain}
 abbrev pub name_of : Catch → List ℕ
 name_of k = (catch_key k).name
 
--- a name is one of these
+-- a name is in a list
 abbrev pub is_among : List (List ℕ) → List ℕ → Bool
 is_among names name = list_any (bytes_eq name) names
 
--- the names, each once, in the order of their first occurrences
+-- names without repetitions, in the order of their first occurrences
 abbrev pub each_once : List (List ℕ) → List (List ℕ)
 each_once [] = []
 each_once (name ∷ names) = name ∷ filter (λ other. not (bytes_eq name other)) (each_once names)
@@ -34,7 +34,7 @@ names_of branch = each_once (map name_of branch)
 abbrev pub has_patch : List Catch → List ℕ → Bool
 has_patch branch name = is_among (map name_of branch) name
 
--- the first of some names of which a branch has no patch
+-- the first of some names of which a branch has no patch, or none
 abbrev pub first_lacked : List Catch → List (List ℕ) → Option (List ℕ)
 first_lacked branch [] = None
 first_lacked branch (name ∷ names) = if has_patch branch name then first_lacked branch names else Some name
@@ -68,7 +68,7 @@ abbrev pub labels_of : List Patch → List Key
 labels_of [] = []
 labels_of (patch ∷ patches) = labels_from patch.name 1 patch.changes ++ labels_of patches
 
--- the names of patches
+-- the names of patches, in order
 abbrev pub patch_names : List Patch → List (List ℕ)
 patch_names patches = map (λ p. p.name) patches
 

@@ -15,8 +15,8 @@ names_in set = keys (map_of (slice_cmp nat_cmp) set)
 abbrev pub has_name : List (List ℕ × Unit {0}) → List ℕ → Bool
 has_name set name = contains_key (map_of (slice_cmp nat_cmp) set) name
 
--- the catches are lawful, the index has the names of their patches, and the stored tree is the one that they
--- lead to
+-- the invariant of a branch: its catches are lawful, the index has the names of their patches, and the stored tree is
+-- the one that they lead to
 pub record IsBranch (branch : Inside) : Type 0 where
   pub lawful : IsLawfulBranch branch.catches
   pub named :

@@ -26,7 +26,7 @@ NamesAreOfPatches =
 abbrev pub ExactlyOne : {A : Type 0} → (A → Type 0) → Type 0
 ExactlyOne {A} Has = (one : A) × Has one × ((other : A) → Has other → other ≡ one)
 
--- a pull has exactly one outcome, and so has an obliteration
+-- a pull and an obliteration have exactly one outcome each
 pub record OutcomesAreDetermined : Type 0 where
   pub pulls : (from to : List Catch) (wanted : List (List ℕ)) → ExactlyOne (PullGives from to wanted)
   pub obliterates : (branch : List Catch) (names : List (List ℕ)) → ExactlyOne (ObliterateGives branch names)
@@ -43,11 +43,11 @@ those_of names patches = filter (λ p. is_among names p.name) patches
 abbrev pub others_of : List (List ℕ) → List Patch → List Patch
 others_of names patches = filter (λ p. not (is_among names p.name)) patches
 
--- a branch has no patch of these names
+-- no patch of a branch has one of these names
 abbrev pub AreLacked : List Catch → List (List ℕ) → Type 0
 AreLacked to wanted = (name : List ℕ) → is_among wanted name ≡ true → has_patch to name ≡ false
 
--- the result of a pull begins with `to`
+-- the result of a pull begins with the catches of `to`
 abbrev pub PullsBeginWithOwn : Type 0
 PullsBeginWithOwn =
     (from to pulled : List Catch) (wanted : List (List ℕ)) → PullGives from to wanted (Ok pulled) →

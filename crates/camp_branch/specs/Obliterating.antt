@@ -1,10 +1,10 @@
--- Taking patches out of a branch: all others are moved to its front, and the rest is dropped.
+-- Taking patches out of a branch: all others are moved to its front, and what comes after them is dropped.
 use Rattle.std.specs.Prelude.{◌≡◌, ℕ, not, List, filter, Ok}
 use Rattle.camp_catch.specs.declared.catches.Catch.{Catch}
 use Rattle.camp_branch.specs.Branches.{is_among, names_of}
 use Rattle.camp_branch.specs.Pulling.{Outcome, WantedNext}
 
--- the names of the patches of a branch that are not among these
+-- the names of a branch's patches that are not among these
 abbrev pub other_names : List Catch → List (List ℕ) → List (List ℕ)
 other_names branch names = filter (λ name. not (is_among names name)) (names_of branch)
 

@@ -14,8 +14,8 @@ use Rattle.camp_branch.specs.declared.faults.Blocked.TheVariants.{Depends, Diver
 abbrev pub Outcome : Type 0
 Outcome = Result (List Catch) Blocked
 
--- one step of a pull: it gives two lists, with which the next step continues, or is blocked at two labels, which make
--- the reason why the pull is blocked
+-- one step of a pull: either it gives two lists, with which the next step continues, or two labels block it, which name
+-- the reason
 abbrev pub StepThen :
     (List Catch → List Catch → Type 0) → (Key → Key → Type 0) → (Key → Key → Blocked)
     → (List Catch → List Catch → Outcome → Type 0) → Outcome → Type 0
@@ -23,8 +23,7 @@ StepThen Gives Sticks why Next outcome =
     ((x : List Catch) × (y : List Catch) × Gives x y × Next x y outcome)
     ⊎ ((stuck : Key) × (on : Key) × Sticks stuck on × (outcome ≡ Err (why stuck on)))
 
--- two lists of catches first differ at a catch of this name: that of the first list, if both have a catch
--- there
+-- two lists of catches first differ at this patch: the one of the first list, if both have a catch at that index
 abbrev pub DiffersAt : List Catch → List Catch → List ℕ → Type 0
 DiffersAt [] [] name = ⊥
 DiffersAt [] (k ∷ list) name = name ≡ name_of k
@@ -32,9 +31,8 @@ DiffersAt (j ∷ list) [] name = name ≡ name_of j
 DiffersAt (j ∷ list) (k ∷ others) name =
     ((j ≢ k) × (name ≡ name_of j)) ⊎ ((j ≡ k) × DiffersAt list others name)
 
--- the common patches in the order of those of `to` are the same, and the next step starts; or else the
--- branches have diverged, at the patch that is blocked in this order, or at the first one that is not the
--- same
+-- the common patches, put in the order of those of `to`, equal them, and the next step continues; or else the branches
+-- have diverged, at the patch that cannot be put in this order or at the first that differs
 abbrev pub SameThen : List Catch → List Catch → (Outcome → Type 0) → Outcome → Type 0
 SameThen from_common to_common Next outcome =
     (Align (keys_of to_common) from_common to_common × Next outcome)
@@ -53,7 +51,7 @@ abbrev pub CommonFirst :
 CommonFirst names branch =
     StepThen (Arrange names branch) (ArrangeIsBlocked names branch) (λ stuck on. Diverged stuck.name)
 
--- the wanted patches are moved in front of those that are not, or one depends on another
+-- the wanted patches are moved in front of the others, or one depends on another that is not wanted
 -- list <-> wanted others
 abbrev pub WantedNext :
     List (List ℕ) → List Catch → (List Catch → List Catch → Outcome → Type 0) → Outcome → Type 0
@@ -66,8 +64,8 @@ abbrev pub MergedLast :
 MergedLast wanted others =
     StepThen (MergeLists wanted others) (MergeIsBlocked wanted others) (λ left right. NoMerge left.name right.name)
 
--- with the common patches before them, the wanted ones are merged with those that only the other branch has;
--- the new branch is `to` followed by what they become
+-- the wanted patches, which come after the common ones, are merged with those that only the other branch has; the new
+-- branch is `to` followed by what the wanted ones become
 abbrev pub MergesAfterCommon : List (List ℕ) → List Catch → List Catch → List Catch → Outcome → Type 0
 MergesAfterCommon common from_common chosen to =
     CommonFirst common to (λ to_common others.
@@ -80,6 +78,6 @@ PullBy common from to wanted =
     CommonFirst common from (λ from_common behind.
     WantedNext wanted behind (λ chosen left. MergesAfterCommon common from_common chosen to))
 
--- the outcome of a pull: the common patches are those of the names that both branches have
+-- the outcome of a pull: the common patches are those whose names both branches have
 abbrev pub PullGives : List Catch → List Catch → List (List ℕ) → Outcome → Type 0
 PullGives from to wanted = PullBy (common_names from to) from to wanted

@@ -130,7 +130,7 @@ impl Branch {
         conflicts_of(&self.catches)
     }
 
-    /// Returns the branch with a patch of these changes appended; `tree` is the tree that they lead to.
+    /// Returns the branch with a patch of these changes appended; `tree` is the tree that the changes lead to.
     pub fn recorded(
         &self,
         name: &Name,
@@ -152,9 +152,9 @@ impl Branch {
         })
     }
 
-    /// Computes a length for which the prefixes of another branch and of this one agree: the same patches in
-    /// the same state. `known` is such a length. The result includes all catches after it that are the same
-    /// in both, and further ones that are the same patches in other orders.
+    /// Computes a length up to which another branch and this one agree: their prefixes of that length have the same
+    /// patches in the same state. `known` is such a length. The result counts all catches after it that are the same in
+    /// both, and as many further ones as are found to be the same patches in other orders.
     pub fn agreed(&self, from: &Branch, known: usize) -> Result<usize, AllocError>
         requires { Agree from.now self.now known }
         ensures agree { IfOk result (Agree from.now self.now) }
@@ -178,7 +178,8 @@ impl Branch {
         self.pulled_behind(from, wanted, known)
     }
 
-    /// Computes the same for branches whose prefixes of length `known` agree. Reads only the catches after these prefixes.
+    /// Pulls as `pull` does, for branches whose prefixes of length `known` agree. Reads only the catches after these
+    /// prefixes.
     pub fn pulled_behind(
         &self,
         from: &Branch,
@@ -196,7 +197,7 @@ impl Branch {
         Ok(self.with_taken(&taken)?)
     }
 
-    /// Takes the patches of some names out: the branch without them, or the first other patch that depends on
+    /// Takes the patches of these names out. Returns the branch without them, or the first other patch that depends on
     /// one of them.
     pub fn without(&self, names: &NameSet) -> Result<Branch, Unmade<Blocked>>
         ensures exact { GivesOrRunsOut (ObliterateGives self.now (names_in names.now)) result }
@@ -208,8 +209,8 @@ impl Branch {
         Ok(self.with_end(start, &arranged.first, &arranged.rest, staying)?)
     }
 
-    /// Returns the branch with the catches from an index on in another order, cut off before those that are
-    /// taken out. `names` are the names of the patches that remain.
+    /// Returns the branch with its catches from an index on in another order, and without those at the end that are
+    /// taken out. `names` are the names of the remaining patches.
     fn with_end(
         &self,
         start: usize,

@@ -23,7 +23,7 @@ pub(crate) fn conflicts_of(
     Ok(pairs)
 }
 
-/// Returns the pairs as the catches have them: in no order, and possibly more than once.
+/// Returns the pairs in the order of the catches, possibly with repetitions.
 fn collected(catches: &SharedList<Shared<Catch>>) -> Result<Vec<(Name, Name)>, AllocError>
     ensures { IfOk result (λ pairs. pairs.items ≡ pairs_in catches.now) }
 {
@@ -58,7 +58,7 @@ fn pair_with_each(
     Ok(())
 }
 
-/// Appends the pair of two names, the lesser first, unless they are the same.
+/// Appends two names as a pair, the lesser first, unless they are equal.
 fn push_pair(name: &Name, other: &Name, pairs: &mut Vec<(Name, Name)>) -> Result<(), AllocError>
     ensures { OnOk result (pairs.new.items ≡ pairs.old.items ++ pair_of name.now other.now) }
 {

@@ -25,7 +25,7 @@ pub(crate) fn tree_after(tree: &Tree, catches: &[Shared<Catch>]) -> Result<Tree,
     Ok(after)
 }
 
-/// Undoes the effects of catches: returns the tree before them; `tree` is the one after them.
+/// Undoes the effects of catches; `tree` is the tree after them. Returns the tree before them.
 pub(crate) fn tree_before(tree: &Tree, catches: &[Shared<Catch>]) -> Result<Tree, AllocError>
     requires led { (before : Files) × AppliesAll (flat_map effect_of catches.now) before tree.now }
     ensures { IfOk result (λ before. AppliesAll (flat_map effect_of catches.now) before tree.now) }
@@ -52,7 +52,7 @@ fn run(effect: &[Named], tree: &mut Tree) -> Result<(), AllocError>
     Ok(())
 }
 
-/// Undoes an effect, the last change of which led to this tree.
+/// Undoes an effect; `tree` is the tree after its last change.
 fn run_back(effect: &[Named], tree: &mut Tree) -> Result<(), AllocError>
     requires ran { (before : Files) × AppliesAll effect.now before tree.old }
     ensures { OnOk result (AppliesAll effect.now tree.new tree.old) }

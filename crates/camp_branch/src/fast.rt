@@ -1,11 +1,12 @@
-//! A pull starts after the prefixes of the two branches that agree.
+//! A pull skips the prefixes of the two branches that agree.
 //!
-//! The first n catches of two branches agree if those of one, put in the order of those of the other, are the same.
-//! All their patches are common, so arranging, aligning and comparing leave them where they are and begin after them.
+//! The first n catches of two branches agree if those of one, put in the order of those of the other, are the same. All
+//! their patches are common, so moving the common patches to the front, ordering and comparing them would leave them
+//! unchanged.
 //!
-//! Such a prefix is found in two steps. Catches that are the same in both branches are counted. After them, equal sums
-//! over the labels suggest how many more catches have the same labels; aligning those decides whether they agree. If
-//! they do not, the plain pull finds out why.
+//! The length of such a prefix is found in two steps. First, catches that are the same in both branches are counted.
+//! Then sums over the hashes of labels estimate how many more catches have the same labels in another order; putting
+//! those in order decides whether they agree. If they do not, the complete pull finds out why.
 ghost use Rattle.std.specs.Prelude.{◌+◌, ◌≤◌, drop, length, IfOk};
 ghost use Rattle.camp_branch.specs.Agreeing.{Agree, ReachesAll};
 ghost use Rattle.camp_branch.specs.Inside.Alike.{DifferAfter};
@@ -15,8 +16,8 @@ use camp_catch::{Catch, Unmade};
 use camp_share::{Shared, SharedList};
 use std::alloc::{AllocError, Global};
 
-/// Computes a length for which the prefixes of two lists agree, given such a length, `known`. Adds to it the next
-/// catches that are the same in both lists, and after these the ones that have the same labels and agree.
+/// Computes a length up to which two lists agree, given such a length, `known`. Adds the catches after it that are the
+/// same in both lists, and after these the ones that have the same labels and agree.
 pub(crate) fn agreed(
     alloc: Global,
     from: &SharedList<Shared<Catch>>,
@@ -27,7 +28,7 @@ pub(crate) fn agreed(
     ensures agree { IfOk result (Agree from.now to.now) }
     ensures as_they_are { IfOk result (λ long. ReachesAll from.now to.now known long) }
 {
-    // States a fact for the prover: a length fits in a `usize`.
+    // A fact for the prover: a length fits in a `usize`.
     prove!(from.len() <= usize::MAX);
     let start = known + same_behind(from, to, known);
     let more = alike_in_labels(from, to, start);
@@ -43,7 +44,7 @@ pub(crate) fn agreed(
     }
 }
 
-/// Counts the catches after the first `known` that are the same in both lists, up to the first difference.
+/// Counts the catches from index `known` on that are the same in both lists, up to the first difference.
 fn same_behind(
     from: &SharedList<Shared<Catch>>,
     to: &SharedList<Shared<Catch>>,
@@ -55,7 +56,7 @@ fn same_behind(
     ensures fits_too { known + result ≤ length to.now }
     ensures most { DifferAfter (drop known from.now) (drop known to.now) result }
 {
-    // States a fact for the prover: a length fits in a `usize`.
+    // A fact for the prover: a length fits in a `usize`.
     prove!(from.len() <= usize::MAX);
     let mut others = to.iter_from(known);
     let mut same = 0;
@@ -71,8 +72,8 @@ fn same_behind(
     same
 }
 
-/// Estimates how many catches after the first `known` have the same labels in both lists, by sums over the labels: if
-/// the sums are equal, the labels may still differ.
+/// Estimates how many catches from index `known` on have the same labels in both lists, by sums over the hashes of
+/// their labels. Equal sums do not prove equal labels.
 fn alike_in_labels(
     from: &SharedList<Shared<Catch>>,
     to: &SharedList<Shared<Catch>>,
@@ -83,7 +84,7 @@ fn alike_in_labels(
     ensures fits { known + result ≤ length from.now }
     ensures fits_too { known + result ≤ length to.now }
 {
-    // States a fact for the prover: a length fits in a `usize`.
+    // A fact for the prover: a length fits in a `usize`.
     prove!(from.len() <= usize::MAX);
     let mut others = to.iter_from(known);
     let mut difference: u64 = 0;
@@ -104,7 +105,7 @@ fn alike_in_labels(
     alike
 }
 
-/// Hashes the label of a catch: catches with the same label have the same number, and others rarely have.
+/// Hashes the label of a catch. Equal labels have equal hashes; other labels rarely do.
 fn label_sum(catch: &Catch) -> u64 {
     let mut sum = catch.place() as u64;
     for byte in catch.name().bytes() {

@@ -4,8 +4,8 @@ use camp_base::Name;
 /// Why patches cannot be pulled into a branch or taken out of it.
 #[derive(Clone, Copy, PartialEq, Eq, Debug)]
 pub enum Blocked {
-    /// The patch depends on `on`: it cannot be moved in front of `on`, which is not pulled with it, or which
-    /// is taken out.
+    /// The patch depends on `on`: it cannot be moved in front of `on`, which is not pulled with it or, in an
+    /// obliteration, is taken out.
     Depends { patch: Name, on: Name },
     /// The branches have this patch in different states: in one branch it cannot be moved to the front or put
     /// in the order of the other branch, or its catch differs.

@@ -24,25 +24,24 @@ pub fn conflicts_are_determined()
     ensures law { ConflictsAreDetermined }
 {}
 
-/// A pulled branch begins with the branch that is pulled into.
+/// The result of a pull begins with the branch that is pulled into.
 pub fn pulls_begin_with_own()
     ensures law { PullsBeginWithOwn }
 {}
 
-/// A pulled branch has its own patches and then the wanted ones, in the order of the other branch, and is
-/// lawful.
+/// The result of a pull has its own patches and then the wanted ones, in the order of the other branch, and is lawful.
 #[tactic(auto, using(crate::proofs::KeepLawful::pulls_keep_lawful))]
 pub fn pulls_keep_lawful()
     ensures law { PullsKeepLawful }
 {}
 
-/// An obliteration keeps the other patches in their order, and the branch is lawful.
+/// An obliteration keeps the other patches in their order, and the resulting branch is lawful.
 #[tactic(auto, using(crate::proofs::KeepLawful::obliterates_keep_lawful))]
 pub fn obliterates_keep_lawful()
     ensures law { ObliteratesKeepLawful }
 {}
 
-/// A new branch is lawful, and recording a patch under a new name keeps it so.
+/// A new branch is lawful, and stays so when a patch is recorded under a new name.
 #[tactic(auto, using(crate::proofs::KeepLawful::records_keep_lawful))]
 pub fn records_keep_lawful()
     ensures law { RecordsKeepLawful }

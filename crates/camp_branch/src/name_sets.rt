@@ -12,11 +12,11 @@ use std::alloc::{AllocError, Global};
 /// Names of patches, each once.
 pub type NameSet = SharedMap<Name, ()>;
 
-/// The most names that `set_of` inserts in the order in which they are given.
+/// The most names that `set_of` inserts without sorting them.
 const FEW_NAMES: usize = 64;
 
-/// Makes the set of names. Many names are sorted first: each is then inserted at the end of the set's entries,
-/// where an insertion before others moves all of those.
+/// Makes the set of names. Many names are sorted first, since an insertion at the end of the set's entries moves none
+/// of them.
 pub fn set_of(alloc: Global, names: &[Name]) -> Result<NameSet, AllocError>
     ensures exact { IfOk result (λ set. (name : List ℕ) → is_among (names_in set) name ≡ is_among names.now name) }
 {
@@ -29,7 +29,7 @@ pub fn set_of(alloc: Global, names: &[Name]) -> Result<NameSet, AllocError>
     Ok(set)
 }
 
-/// Inserts names, in this order, into an empty set.
+/// Inserts names, in the given order, into an empty set.
 fn filled(alloc: Global, names: &[Name]) -> Result<NameSet, AllocError>
     ensures { IfOk result (λ set. (name : List ℕ) → is_among (names_in set) name ≡ is_among names.now name) }
 {
@@ -52,8 +52,7 @@ pub(crate) fn without(names: &NameSet, gone: &NameSet) -> Result<NameSet, AllocE
     Ok(left)
 }
 
-/// Returns the names of the patches of two lists of catches that both branches have; each branch's names are
-/// given as a set.
+/// Returns the names that are in both of two lists of catches; each list's names are given as a set.
 pub(crate) fn common(
     list: &[Shared<Catch>],
     names: &NameSet,
@@ -89,11 +88,11 @@ pub(crate) fn with_taken(names: &NameSet, taken: &[Shared<Catch>]) -> Result<Nam
     Ok(all)
 }
 
-/// Returns the length of the longest prefix of catches whose patches are none of the names.
+/// Returns the length of the longest prefix of catches of which no patch is among the names.
 pub(crate) fn front_before(catches: &SharedList<Shared<Catch>>, names: &NameSet) -> usize
     ensures { result ≡ front_before (names_in names.now) catches.now }
 {
-    // States a fact for the prover: a length fits in a `usize`.
+    // A fact for the prover: a length fits in a `usize`.
     prove!(catches.len() <= usize::MAX);
     catches
         .iter()

@@ -39,7 +39,7 @@ pub(crate) fn pull(
     merged_last(alloc, &chosen.first, &ours.rest)
 }
 
-/// The same if the branches have no common patch: only the wanted patches have to be moved to the front.
+/// Pulls as `pull` does, for branches without a common patch: only the wanted patches have to be moved to the front.
 fn pull_of_none_common(
     alloc: Global,
     from: &[Shared<Catch>],
@@ -54,7 +54,7 @@ fn pull_of_none_common(
     merged_last(alloc, &chosen.first, to)
 }
 
-/// Moves the common patches to the front of a branch: these and the others.
+/// Moves the common patches to the front of a branch. Returns them and the others.
 fn common_first(
     alloc: Global,
     list: &[Shared<Catch>],
@@ -71,7 +71,7 @@ fn common_first(
     }
 }
 
-/// Moves the wanted patches to the front: these and the others.
+/// Moves the wanted patches to the front. Returns them and the others.
 pub(crate) fn wanted_next(
     alloc: Global,
     list: &[Shared<Catch>],

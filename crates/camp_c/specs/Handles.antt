@@ -13,7 +13,7 @@ use Rattle.camp_c.specs.declared.objects.OpenObject.TheVariants.{Session, View}
 abbrev pub HandleState : Type 0
 HandleState = Option OpenObject
 
--- nothing is done, and the value of the handle is unchanged
+-- no error is reported, and the value of the handle is unchanged
 abbrev pub HandleRefuses : HandleState → ℤ → HandleState → Type 0
 HandleRefuses old code now = (code ≡ pos 1) × (now ≡ old)
 
@@ -23,13 +23,13 @@ OpensRepository limits None code now =
     ((code ≡ pos 0) × (now ≡ Some (Session (new_repository limits)))) ⊎ ((code ≡ pos 2) × (now ≡ None))
 OpensRepository limits old code now = HandleRefuses old code now
 
--- the same if the numbers are limits; else the handle stays closed, if it is, and a code says so
+-- the same if the numbers are limits; else the handle is unchanged and a code says so
 abbrev pub OpensWithin : Result Bounds LimitFault → HandleState → ℤ → HandleState → Type 0
 OpensWithin (Ok limits) old code now = OpensRepository limits old code now
 OpensWithin (Err fault) None code now = (code ≡ pos 3) × (now ≡ None)
 OpensWithin (Err fault) old code now = HandleRefuses old code now
 
--- the code for how much of a text was executed
+-- the code that says how much of a text was executed
 abbrev pub code_of : Result (Unit {0}) TalkFault → ℤ
 code_of (Ok done) = pos 0
 code_of (Err why) = pos 2
@@ -42,7 +42,7 @@ pub record AsksOne (old : Repository) (text : List ℕ) (code : ℤ) (now : Hand
   pub reports : code ≡ code_of outcome
   pub state_is : now ≡ Some (Session new)
 
--- the repository of a handle is asked a text; a handle without one is unchanged
+-- the repository of a handle is asked a text; a handle without a repository is unchanged
 abbrev pub AsksRepository : HandleState → List ℕ → ℤ → HandleState → Type 0
 AsksRepository (Some (Session old)) text code now = AsksOne old text code now
 AsksRepository old text code now = HandleRefuses old code now
@@ -55,7 +55,7 @@ pub record SeesOne (old : Snapshot) (text : List ℕ) (code : ℤ) (now : Handle
   pub reports : code ≡ code_of outcome
   pub state_is : now ≡ Some (View new)
 
--- the view of a handle is asked a text; a handle without one is unchanged
+-- the view of a handle is asked a text; a handle without a view is unchanged
 abbrev pub AsksView : HandleState → List ℕ → ℤ → HandleState → Type 0
 AsksView (Some (View old)) text code now = SeesOne old text code now
 AsksView old text code now = HandleRefuses old code now
@@ -70,22 +70,22 @@ abbrev pub answer_of_view : HandleState → List ℕ
 answer_of_view (Some (View view)) = view.answer
 answer_of_view other = []
 
--- a view was made of a repository, or memory ran out
+-- a view of a repository was made, or memory ran out
 abbrev pub OpensOne : Repository → ℤ → HandleState → Type 0
 OpensOne repository code now =
     ((code ≡ pos 0) × (view : Snapshot) × Views repository view × (now ≡ Some (View view)))
     ⊎ ((code ≡ pos 2) × (now ≡ None))
 
--- a closed handle is opened on a view of the repository of another
+-- a closed handle is opened on a view of the repository of another handle
 abbrev pub OpensView : HandleState → HandleState → ℤ → HandleState → Type 0
 OpensView (Some (Session repository)) None code now = OpensOne repository code now
 OpensView other old code now = HandleRefuses old code now
 
--- the same state, and nothing asked
+-- a view with the same state, which was asked no text
 abbrev pub again : Snapshot → Snapshot
 again view = record { state = view.state; answer = [] }
 
--- a closed handle is opened on a view of what another view shows
+-- a closed handle is opened on a view with the state of another view
 abbrev pub OpensViewAgain : HandleState → HandleState → ℤ → HandleState → Type 0
 OpensViewAgain (Some (View view)) None code now =
     ((code ≡ pos 0) × (now ≡ Some (View (again view)))) ⊎ ((code ≡ pos 2) × (now ≡ None))

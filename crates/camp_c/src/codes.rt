@@ -1,6 +1,6 @@
 //! The result codes for C.
 
-/// It was done.
+/// The call was done.
 pub(crate) const DONE: i32 = 0;
 
 /// The handle is closed or of the other kind, or the one to be opened is open.

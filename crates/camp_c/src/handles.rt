@@ -8,8 +8,7 @@ use std::alloc::Global;
 use std::marker::Model;
 use std::mem;
 
-/// A pointer to the box with the value of a handle, or null. It can't be dropped: what it owns has to be
-/// taken out of it.
+/// A pointer to the box with the value of a handle, or null. It can't be dropped; its box has to be taken out of it.
 #[repr(C)]
 pub struct Keeper {
     at: *mut u8,
@@ -62,7 +61,7 @@ impl Keeper {
 
 unsafe impl Send for Keeper {}
 
-/// A handle of C on a repository or a view. One that is all zeros is closed. Its value is `held` of its
+/// A handle of C on a repository or a view. A handle whose bytes are all zero is closed. Its value is `held` of its
 /// keeper.
 #[repr(C)]
 pub struct Handle {
@@ -119,7 +118,7 @@ impl Handle {
     }
 }
 
-/// A handle may go to another thread.
+/// Lets a handle go to another thread.
 pub(crate) fn sent(handle: Handle) -> Handle
     ensures { result ≡ handle }
 {

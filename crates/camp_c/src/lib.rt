@@ -1,4 +1,4 @@
-//! camp for C: the exports that `include/camp.h` declares, over the sessions and views of `camp_session`.
+//! The library for C: the exports that `include/camp.h` declares, over the sessions and views of `camp_session`.
 #![tactic(auto)]
 
 mod codes;

@@ -1,4 +1,4 @@
-//! Views: each shows a repository as it was at one moment, and answers questions only.
+//! Views: each has the state that a repository had at one moment, and answers only questions.
 ghost use Rattle.std.specs.Prelude.{◌≡◌, ◌++◌, None, Some, length, take, drop, min, IfOk, IsOkAnd};
 ghost use Rattle.camp_c.specs.Handles.{AsksView, OpensView, OpensViewAgain, answer_of_view};
 ghost use Rattle.camp_c.specs.Inside.{Shows};
@@ -58,7 +58,7 @@ fn boxed(alloc: Global, view: Result<View, AllocError>) -> Result<Box<OpenObject
     Ok(Box::new(alloc, OpenObject::View(view))?)
 }
 
-/// Asks questions of a view. Nothing but its answer changes.
+/// Asks the questions of a text of a view. Only the view's answer changes.
 #[unsafe(no_mangle)]
 pub extern "C" fn camp_view_ask(alloc: Global, view: &mut Handle, text: &[u8]) -> i32
     ensures { AsksView view.old.keeper.held text.now result view.new.keeper.held }

@@ -4,7 +4,7 @@ use Rattle.camp_call.specs.declared.calls.Call.{Call}
 use Rattle.camp_call.specs.declared.calls.Call.TheVariants as call
 use Rattle.camp_call.specs.Patches.{IsPatchSized}
 
--- a call writes: any but a query
+-- a call writes: it is not a question
 abbrev pub is_writing : Call → Bool
 is_writing (call.Branch new from) = true
 is_writing (call.Record branch name changes) = true
@@ -14,7 +14,7 @@ is_writing (call.Tree branch) = false
 is_writing (call.Conflicts branch) = false
 is_writing (call.Names branch) = false
 
--- a record has 1 to 64 changes
+-- a call that is a record has 1 to 64 changes
 abbrev pub IsCall : Call → Type 0
 IsCall (call.Branch new from) = Unit {0}
 IsCall (call.Record branch name changes) = IsPatchSized changes

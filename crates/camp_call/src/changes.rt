@@ -14,7 +14,7 @@ pub struct Changes {
     prims: Held,
 }
 
-// Most patches have one change; a copy of it does not allocate.
+// One change is stored without a list, since most patches have one; a copy of it does not allocate.
 #[derive(Debug, Drop)]
 enum Held {
     One(Primitive),
@@ -35,7 +35,7 @@ impl Model for Changes {
 }
 
 impl Changes {
-    /// Wraps the changes of a patch; `None` for no change and for more than 64. Does not allocate.
+    /// Wraps the changes of a patch; `None` unless there are 1 to 64. Does not allocate.
     pub fn new(mut prims: Vec<Primitive>) -> Option<Changes>
         ensures exact { MatchOption result
             (¬ (IsPatchSized prims.items))
@@ -65,8 +65,8 @@ impl Changes {
         }
     }
 
-    /// Copies the changes, which share their paths and lines with the copy. One change does not allocate;
-    /// more allocate their list alone.
+    /// Copies the changes, which share their paths and lines with the copy. A copy of one change does not allocate; a
+    /// copy of more allocates only their list.
     pub fn try_clone(&self) -> Result<Changes, AllocError>
         ensures exact { IfOk result (λ copy. copy ≡ self.now) }
     {

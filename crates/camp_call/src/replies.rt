@@ -26,20 +26,20 @@ pub enum Refusal {
     PatchExists(Name),
     /// The branch has no patch of this name.
     NoPatch(Name),
-    /// No patch is named, or none is missing.
+    /// There is nothing to do: no patch is named, or none is missing.
     NothingToDo,
     /// A limit is reached: of branches, catches of a branch, lines of a side of a hunk, or lines of a file.
     TooLarge,
     /// A change does not apply to its tree.
     DoesNotApply,
-    /// A patch depends on another one, which would be missing.
+    /// A patch depends on another one that would be missing.
     Depends { patch: Name, on: Name },
     /// The two branches have this patch in different states, or it cannot be moved in front of what only one
     /// of them has.
     Diverged(Name),
-    /// Two patches do not merge: `left` of the branch that is pulled into, and `right` of the one that is
-    /// pulled from.
+    /// Two patches do not merge: `left` is of the branch that is pulled into, and `right` of the one that is pulled
+    /// from.
     NoMerge { left: Name, right: Name },
-    /// A branch is pulled into itself.
+    /// A branch would be pulled into itself.
     SameBranch(Name),
 }

@@ -5,7 +5,7 @@ use Rattle.camp_catch.specs.Catches.{catch_key}
 use Rattle.camp_catch.specs.Commuting.{CommuteCatch}
 use Rattle.camp_catch.specs.declared.catches.Catch.{Catch}
 
--- list k <-> k' list': k is commuted to before all of a list
+-- list k <-> k' list': k, which comes after a list, is commuted to before all of it
 abbrev pub ComesBefore : List Catch → Catch → Catch → List Catch → Type 0
 ComesBefore [] k k' list' = (k' ≡ k) × (list' ≡ [])
 ComesBefore (j ∷ list) k k' list' =
@@ -16,7 +16,7 @@ ComesBefore (j ∷ list) k k' list' =
 abbrev pub DoNotCommute : Catch → Catch → Type 0
 DoNotCommute j k = (k' j' : Catch) → ¬ (CommuteCatch j k k' j')
 
--- k, commuted to before a list, is blocked by the catch with this absolute label
+-- k, which comes after a list, cannot be commuted to before it: the catch with this absolute label blocks it
 abbrev pub StopsAt : List Catch → Catch → Key → Type 0
 StopsAt [] k on = ⊥
 StopsAt (j ∷ list) k on =
@@ -36,8 +36,8 @@ ArrangesAfter names rest (k ∷ list) first others =
     × ComesBefore rest k k' rest' × ArrangesAfter names rest' list t others × (first ≡ k' ∷ t)))
     ⊎ ((¬ (IsOf names k)) × ArrangesAfter names (rest ++ k ∷ []) list first others)
 
--- the list after `rest`, which has no catch of the names, cannot be arranged: `patch` is the absolute label of the
--- first catch of the names that is blocked, and `on` that of the catch that blocks it
+-- a list that comes after `rest`, which has no catch of the names, cannot be arranged: `patch` is the absolute label of
+-- the first catch of the names that is blocked, and `on` that of the catch that blocks it
 abbrev pub IsBlockedAfter : List (List ℕ) → List Catch → List Catch → Key → Key → Type 0
 IsBlockedAfter names rest [] patch on = ⊥
 IsBlockedAfter names rest (k ∷ list) patch on =
@@ -63,15 +63,14 @@ ComesFirst key (j ∷ list) k' others =
     ⊎ ((catch_key j ≢ key) × ((coming : Catch) × (j' : Catch) × (t : List Catch)
     × ComesFirst key list coming t × CommuteCatch j coming k' j' × (others ≡ j' ∷ t)))
 
--- the list in the order of these absolute labels; the catches that it does not name stay after the others, in
--- their order
+-- the list in the order of these absolute labels; catches whose label is not among them come last, in their own order
 abbrev pub Align : List Key → List Catch → List Catch → Type 0
 Align [] list aligned = aligned ≡ list
 Align (key ∷ order) list aligned =
     (k : Catch) × (others : List Catch) × (t : List Catch)
     × ComesFirst key list k others × Align order others t × (aligned ≡ k ∷ t)
 
--- the first label of the order whose catch is blocked or does not exist
+-- the first of these labels whose catch is blocked, or that no catch has
 abbrev pub AlignIsBlocked : List Key → List Catch → Key → Type 0
 AlignIsBlocked [] list stuck = ⊥
 AlignIsBlocked (key ∷ order) list stuck =

@@ -9,17 +9,17 @@ use Rattle.camp_catch.specs.declared.catches.Conflictor.{Conflictor}
 abbrev pub Exclude : (Catch → Catch → Type 0) → (Catch → Catch → Type 0) → Type 0
 Exclude One Other = (k' j' k j : Catch) → One k' j' → ¬ (Other k j)
 
--- `Exclude` for two cases of a plain catch and a conflictor
+-- `Exclude` for two cases that take a plain catch and a conflictor
 abbrev pub PlainExclude :
     (Named → Conflictor → Catch → Catch → Type 0) → (Named → Conflictor → Catch → Catch → Type 0) → Type 0
 PlainExclude One Other = (a : Named) (k : Conflictor) → Exclude (One a k) (Other a k)
 
--- `Exclude` for two cases of two conflictors
+-- `Exclude` for two cases that take two conflictors
 abbrev pub ConflictorsExclude :
     (Conflictor → Conflictor → Catch → Catch → Type 0) → (Conflictor → Conflictor → Catch → Catch → Type 0) → Type 0
 ConflictorsExclude One Other = (j k : Conflictor) → Exclude (One j k) (Other j k)
 
--- of two cases of commuting that begin with catches of the same kinds, at most one has a result
+-- at most one case of commuting has a result, whatever the kinds of the two catches
 pub record CasesExclude : Type 0 where
   pub past_dissolves : PlainExclude PlainPastConflictor ConflictDissolves
   pub past_leaves : PlainExclude PlainPastConflictor PlainLeavesTheSet
@@ -28,8 +28,8 @@ pub record CasesExclude : Type 0 where
   pub apart_several : ConflictorsExclude TwoConflictorsApart OneOfSeveralConflicts
   pub only_several : ConflictorsExclude OnlyConflictGoes OneOfSeveralConflicts
 
--- of two cases of merging catches of the same kinds, at most one has a result. The cases of a conflictor and a plain
--- catch are those of a plain catch and a conflictor, with the results exchanged. Two conflictors have one case.
+-- at most one case of merging has a result, whatever the kinds of the two catches. The cases of a conflictor and a
+-- plain catch are those of a plain catch and a conflictor, with the results exchanged. Two conflictors have one case.
 pub record MergeCasesExclude : Type 0 where
   pub both_plain : (a b : Named) → Exclude (Clean a b) (FirstConflict a b)
   pub plain_and_conflictor : PlainExclude PlainBesideConflictor PlainJoinsConflictor

@@ -13,7 +13,7 @@ abbrev pub catch_key : Catch → Key
 catch_key (Plain a) = patch_key a
 catch_key (Catch.Conflictor k) = context_key k.identity
 
--- the effect of a catch as a list
+-- the effect of a catch, as a list of primitives
 abbrev pub effect_of : Catch → List Named
 effect_of (Plain a) = a ∷ []
 effect_of (Catch.Conflictor k) = k.effect

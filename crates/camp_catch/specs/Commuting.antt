@@ -155,7 +155,7 @@ CommuteCatch (Plain a) (Catch.Conflictor k) k' j' = CommutePlainConflictor a k k
 CommuteCatch (Catch.Conflictor j) (Plain b) k' j' = ConflictorPastPlain j b k' j'
 CommuteCatch (Catch.Conflictor j) (Catch.Conflictor k) k' j' = CommuteConflictors j k k' j'
 
--- commuting these two may run out of memory; two plain ones only if they commute
+-- commuting these two may run out of memory: any two, except plain ones that do not commute
 abbrev pub MayWant : Catch → Catch → Type 0
 MayWant (Plain a) (Plain b) = (b' : Named) × ((a' : Named) × Commute a b b' a')
 MayWant (Plain a) (Catch.Conflictor k) = Unit {0}

@@ -1,4 +1,4 @@
--- Conflictors (r, X, i), and what is made from them: r is the effect, X the conflicts, and i the identity.
+-- Conflictors (r, X, i): the effect r, the conflicts X and the identity i; and conflictors made from others.
 use Rattle.std.specs.Prelude.{List, [], ◌∷◌}
 use Rattle.std.specs.FinMap.{remove}
 use Rattle.camp_prim.specs.Effect.{inverse_of}
@@ -23,7 +23,7 @@ with_effect s k = record { effect = s; conflicts = k.conflicts; identity = k.ide
 abbrev pub with_conflicts : ContextedPatches → Conflictor → Conflictor
 with_conflicts ys k = record { effect = k.effect; conflicts = ys; identity = k.identity }
 
--- (r, X and l, i): the conflictor in conflict with l too
+-- (r, X and l, i): the conflictor with l as a further conflict
 abbrev pub joined_by : ContextedPatch → Conflictor → Conflictor
 joined_by l k = with_conflicts (with_member k.conflicts l) k
 
@@ -31,7 +31,8 @@ joined_by l k = with_conflicts (with_member k.conflicts l) k
 abbrev pub without : Key → Conflictor → Conflictor
 without key k = with_conflicts (remove k.conflicts key) k
 
--- (r, X, i) becomes (r', X', i'), where the first relation gives r', the second each member of X', and the third i'
+-- (r, X, i) becomes (r', X', i'): the first relation leads from r to r', the second from each member of X to one of X',
+-- and the third from i to i'
 pub record Becomes (IsEffect : List Named → Type 0) (ChangesMember ChangesIdentity : ContextedPatch → ContextedPatch → Type 0)
     (old new : Conflictor) : Type 0 where
   pub effect : IsEffect new.effect

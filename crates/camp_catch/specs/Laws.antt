@@ -46,26 +46,26 @@ pub record ListsKeepEffects : Type 0 where
       (p q p' q' : List Catch) → MergeLists p q p' q' → (old left right : Files) → FitsAll q old left →
       FitsAll p old right → (new : Files) × FitsAll p' left new × FitsAll q' right new
 
--- the absolute labels of a list
+-- the absolute labels of a list, in order
 abbrev pub keys_of : List Catch → List Key
 keys_of list = map catch_key list
 
--- the keys that belong to these patches, and the others, both in their order
+-- the keys of these patches, and the others, both in their order
 abbrev pub KeysPart : List (List ℕ) → List Key → List Key → List Key → Type 0
 KeysPart names [] first rest = (first ≡ []) × (rest ≡ [])
 KeysPart names (key ∷ keys) first rest =
     (Contains names key.name × ((t : List Key) × KeysPart names keys t rest × (first ≡ key ∷ t)))
     ⊎ ((¬ (Contains names key.name)) × ((t : List Key) × KeysPart names keys first t × (rest ≡ key ∷ t)))
 
--- the keys in the given order, and then the others in their own order
+-- the given keys first, and then the others, in their own order
 abbrev pub KeysAlign : List Key → List Key → List Key → Type 0
 KeysAlign [] keys aligned = aligned ≡ keys
 KeysAlign (key ∷ order) keys aligned =
     (before : List Key) × (after : List Key) × (t : List Key)
     × (keys ≡ before ++ key ∷ after) × KeysAlign order (before ++ after) t × (aligned ≡ key ∷ t)
 
--- commuting and merging keep absolute labels; arranging and aligning permute them; merging lists keeps those
--- of each list in their order
+-- commuting and merging keep absolute labels; arranging and aligning permute them; merging lists keeps the labels of
+-- each list, in their order
 pub record KeepLabels : Type 0 where
   pub commuted :
       (j k k' j' : Catch) → CommuteCatch j k k' j' → (catch_key k' ≡ catch_key k) × (catch_key j' ≡ catch_key j)

@@ -1,5 +1,5 @@
--- The results of arranging, aligning and merging lists of catches: at most one, and exactly one of a result
--- and the labels that block it.
+-- Arranging, aligning and merging lists of catches have at most one result, and either a result or the labels that
+-- block it.
 use Rattle.std.specs.Prelude.{◌≡◌, ◌↔◌, ◌⊎◌, ℕ, List, map, Contains}
 use Rattle.camp_prim.specs.declared.labels.Key.{Key}
 use Rattle.camp_prim.specs.declared.named.Named.{Named}
@@ -19,7 +19,7 @@ AreEqual x y z w = (x ≡ z) × (y ≡ w)
 abbrev pub GivesOnePair : {X Y : Type 0} → (X → Y → Type 0) → Type 0
 GivesOnePair {X} {Y} Result = (x z : X) (y w : Y) → Result x y → Result z w → AreEqual x y z w
 
--- each relation on lists of catches has at most one result, and each failure one pair of labels
+-- each relation on lists of catches has at most one result, and each relation for a failure at most one pair of labels
 pub record ListsAreUnique : Type 0 where
   pub comes_before : (list : List Catch) (k : Catch) → GivesOnePair (ComesBefore list k)
   pub stops_at :
@@ -38,7 +38,7 @@ pub record ListsAreUnique : Type 0 where
   pub merged : (p q : List Catch) → GivesOnePair (MergeLists p q)
   pub merge_sticks : (p q : List Catch) → GivesOnePair (MergeIsBlocked p q)
 
--- a relation on pairs has a result
+-- a relation on pairs has some result
 abbrev pub HasPair : {X Y : Type 0} → (X → Y → Type 0) → Type 0
 HasPair {X} {Y} Result = (x : X) × (y : Y) × Result x y
 
@@ -54,12 +54,12 @@ CommuteIsDecided = (j k : Catch) → HasPair (CommuteCatch j k) ⊎ DoNotCommute
 abbrev pub MergeIsDecided : Type 0
 MergeIsDecided = (j k : Catch) → HasPair (MergeCatch j k) ⊎ DoNotMerge j k
 
--- commuting and merging are decided
+-- whether two catches commute or merge is decidable
 pub record CatchesAreDecided : Type 0 where
   pub commute : CommuteIsDecided
   pub merge : MergeIsDecided
 
--- a list either has a result or is blocked
+-- a list has a result or is blocked
 pub record ListsSucceedOrAreBlocked : Type 0 where
   pub comes_before :
       (list : List Catch) (k : Catch) →
@@ -76,7 +76,7 @@ pub record ListsSucceedOrAreBlocked : Type 0 where
   pub merges :
       (p q : List Catch) → OneOf (HasPair (MergeLists p q)) (HasPair (MergeIsBlocked p q))
 
--- arranging by names depends on which names there are, not on their order or number
+-- arranging by names depends only on which names are given, not on their order, nor on repetitions
 pub record ArrangeByMembers : Type 0 where
   pub arranged :
       (names others : List (List ℕ)) → ((name : List ℕ) → Contains names name ↔ Contains others name) →
@@ -85,8 +85,8 @@ pub record ArrangeByMembers : Type 0 where
       (names others : List (List ℕ)) → ((name : List ℕ) → Contains names name ↔ Contains others name) →
       (list : List Catch) (patch on : Key) → ArrangeIsBlocked names list patch on → ArrangeIsBlocked others list patch on
 
--- of plain catches with headroom: a patch that blocks the patches of some names on their way to the front is in every
--- set of patches that has these names and can be moved to the front
+-- of plain catches with headroom: if a patch blocks the patches of some names on their way to the front, every set of
+-- patches that includes these names and can be moved to the front has that patch too
 abbrev pub BlockersAreIncluded : Type 0
 BlockersAreIncluded =
     (patches : List Named) (names others : List (List ℕ)) → HasRoom patches →
@@ -94,8 +94,8 @@ BlockersAreIncluded =
     ArrangeIsBlocked names (map Plain patches) patch on → HasPair (Arrange others (map Plain patches)) →
     Contains others on.name
 
--- of plain catches with headroom: if each of two sets of patches can be moved to the front, then after the second was
--- moved there, the rest of the first can be moved to the front of what follows
+-- of plain catches with headroom: if each of two sets of patches can be moved to the front, then, once the second is
+-- there, the rest of the first can be moved to the front of what follows
 abbrev pub FrontsFollowFronts : Type 0
 FrontsFollowFronts =
     (patches : List Named) (names others wanted : List (List ℕ)) → HasRoom patches →

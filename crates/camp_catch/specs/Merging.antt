@@ -1,4 +1,4 @@
--- The merge of two catches that begin in the same state: k' after j, and j' after k. The letters are those of
+-- The merge of two catches that begin in the same state: k' after j, and j' after k. Letters mean what they mean in
 -- commuting; each list that a case makes is in normal order.
 use Rattle.std.specs.Prelude.{◌≡◌, ◌⊎◌, List, ◌∷◌}
 use Rattle.camp_prim.specs.Effect.{inverse_of}
@@ -66,7 +66,7 @@ MergePlainConflictor a k k' j' = PlainBesideConflictor a k k' j' ⊎ PlainJoinsC
 abbrev pub Mirror : Conflictor → Named → Catch → Catch → Type 0
 Mirror j b k' j' = MergePlainConflictor b j j' k'
 
--- l joins the conflicts if a fact holds; else the conflicts are unchanged
+-- a conflictor gains l as a conflict exactly if a fact holds; else it is unchanged
 abbrev pub JoinsWhere : Type 0 → ContextedPatch → Conflictor → Conflictor → Type 0
 JoinsWhere Holds l old new = (Holds × (new ≡ joined_by l old)) ⊎ ((¬ Holds) × (new ≡ old))
 

@@ -15,9 +15,9 @@ use camp_prim::Key;
 use camp_share::Shared;
 use std::alloc::{AllocError, Global};
 
-/// Commutes the catches with these absolute labels to the front, in this order; the others stay after them in
-/// theirs. Blocked by the first label whose catch cannot be moved to its position or does not exist. A catch
-/// that is already in its position is only checked.
+/// Commutes the catches with these absolute labels to the front, in this order; the others follow in their own order.
+/// Blocked by the first label whose catch cannot be moved to its position, or that no catch has. A catch that is
+/// already in its position is not moved.
 pub fn align(
     alloc: Global,
     list: &[Shared<Catch>],
@@ -33,7 +33,7 @@ pub fn align(
     Ok(settled)
 }
 
-/// Puts a list in the order, in place. If a label is blocked, the list is partly reordered.
+/// Puts a list in the order of these labels, in place. If a label is blocked, the list is partly reordered.
 fn put_in_order(alloc: Global, list: &mut [Gaining], order: &[Key]) -> Result<(), Unmade<Key>>
     ensures exact { GivesOrRunsOut (λ answer. MatchResult answer
         (λ _. Align order.now list.old list.new)

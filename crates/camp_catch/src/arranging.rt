@@ -23,16 +23,16 @@ pub struct Arranged {
     pub rest: Vec<Shared<Catch>>,
 }
 
-/// A catch that was to be moved to the front, and the catch that blocks it.
+/// A catch that is blocked on its way to the front, and the catch that blocks it.
 #[derive(Clone, Copy, Debug, PartialEq, Eq)]
 pub struct Stuck {
     pub patch: Key,
     pub on: Key,
 }
 
-/// Commutes the catches of the patches whose names are keys of the map to the front, past the others. Blocked
-/// if one of them cannot pass one of the others; the first such pair is reported. Catches that do not change
-/// are shared with the old list.
+/// Commutes the catches of some patches to the front, past the others; the keys of the map are the names of the
+/// patches. Blocked if one of the catches cannot pass one of the others; the first such pair is reported. Catches that
+/// do not change are shared with the old list.
 pub fn arrange<V>(
     alloc: Global,
     list: &[Shared<Catch>],
@@ -60,7 +60,7 @@ pub fn arrange<V>(
     Ok(Arranged { first, rest })
 }
 
-/// True if a catch belongs to one of the patches.
+/// True if a catch belongs to one of the patches, whose names are the keys of the map.
 fn is_of<V>(names: &SharedMap<Name, V>, catch: &Catch) -> bool
     ensures { IsTrue result ↔ IsOf (keys (map_of (slice_cmp nat_cmp) names.now)) catch.now }
 {

@@ -17,8 +17,8 @@ pub enum Catch {
     Conflictor(Conflictor),
 }
 
-/// A change in conflict. `effect` is what it does to a tree. Its conflicts and its identity are seen from the
-/// state after the effect.
+/// A change in conflict. `effect` is what it does to a tree; its conflicts and its identity are seen from the state
+/// after the effect.
 #[derive(Drop)]
 pub struct Conflictor {
     pub effect: Seq,

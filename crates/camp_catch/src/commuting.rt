@@ -21,9 +21,8 @@ use camp_prim::Named;
 use camp_seq::{Seq, front, past, past_all};
 use std::alloc::{AllocError, Global};
 
-/// Commutes two catches, one after the other: `Some((k', j'))`, where `k'` and then `j'` have the effect of
-/// `j` and then `k`; `None` if they do not commute. For two plain catches `None` is exact: it never means out
-/// of memory.
+/// Commutes two catches, one after the other: `Some((k', j'))`, where `k'` and then `j'` have the effect of `j` and
+/// then `k`; `None` if they do not commute. Does not run out of memory for two plain catches that do not commute.
 pub fn commute(alloc: Global, j: &Catch, k: &Catch) -> Result<Option<(Catch, Catch)>, AllocError>
     ensures exact { IfOk result (FindsPair (CommuteCatch j.now k.now)) }
     ensures memory { IfErr result (λ error. MayWant j.now k.now) }
@@ -47,8 +46,8 @@ fn both_plain(a: &Named, b: &Named) -> Result<Option<(Catch, Catch)>, AllocError
     Ok(Some((Catch::Plain(b), Catch::Plain(a))))
 }
 
-/// Commutes a plain catch and a conflictor after it: the plain one is not in the conflictor's set, or alone
-/// in it, or one of several.
+/// Commutes a plain catch and a conflictor after it, in one of three cases: the plain catch is not in the conflictor's
+/// set, is alone in it, or is one of several there.
 fn plain_before_conflictor(
     alloc: Global,
     a: &Named,
@@ -96,8 +95,8 @@ fn conflictor_past_plain(
     }
 }
 
-/// Makes `(s', X', i')`, where `s'` is `s` in normal order, `b^` added to `X` gives `X'`, and `i'` is `i` as
-/// `b^` has passed it; `None` if `b^` cannot pass `i`.
+/// Makes `(s', X', i')`, where `s'` is `s` in normal order, `b^` added to `X` gives `X'`, and `b^` commuted past `i`
+/// gives `i'`; `None` if `b^` cannot pass `i`.
 fn inverse_passes_before(
     b: &Named,
     s: Seq,
@@ -123,7 +122,7 @@ fn comes_before(alloc: Global, r: &Seq, b: &Named) -> Result<Option<(Named, Seq)
     Ok(Some((first, left)))
 }
 
-/// Returns the only element of a list.
+/// Returns the element of a list of one.
 fn first_of(list: &[Named]) -> Result<Named, AllocError>
     requires { length list.now ≡ 1 }
     ensures { IfOk result (λ first. list.now ≡ first ∷ []) }
@@ -177,8 +176,8 @@ fn plain_leaves_the_set(
     Ok(Some((Catch::Conflictor(second), Catch::Conflictor(first))))
 }
 
-/// Moves the inverse of `a` to the front of a list, and returns the rest. `None` if no primitive with its
-/// label can be moved there, or that primitive is not the inverse of `a`.
+/// Moves the inverse of `a` to the front of a list, and returns the rest. `None` if it cannot be moved there, or if the
+/// list does not contain it.
 fn behind_inverse(a: &Named, s: &Seq) -> Result<Option<Seq>, AllocError>
     ensures { IfOk result
         (Finds (λ rest. Fronts (label_of (inverse_of a.now)) s.now (inverse_of a.now) rest)) }

@@ -18,7 +18,8 @@ use camp_prim::{Key, Label, Named};
 use camp_seq::{Seq, ordered, past_all, split};
 use std::alloc::{AllocError, Global};
 
-/// Commutes two conflictors: the first is not in the second's set, or alone in it, or one of several.
+/// Commutes two conflictors, in one of three cases: the first is not in the second's set, is alone in it, or is one of
+/// several there.
 pub(crate) fn commute_conflictors(
     alloc: Global,
     j: &Conflictor,
@@ -102,7 +103,7 @@ fn one_of_several_conflicts(
     Ok(Some((Catch::Conflictor(moved), Catch::Conflictor(own))))
 }
 
-/// Makes `(common s', Z', l')` and `rr'`, where `rr s <-> s' rr'`; `None` if these do not commute.
+/// Makes `(common s', Z', l')` and `rr'`, where `rr s <-> s' rr'`; `None` if `rr` and `s` do not commute.
 fn leaves_the_others(
     alloc: Global,
     j: &Conflictor,
@@ -126,7 +127,7 @@ fn joined_behind(r: &Seq, s: Seq, k: &Conflictor, l: &Contexted) -> Result<Confl
     joined(moved, l)
 }
 
-/// Commutes two effects, except that the primitives with which the first undoes members of a set stay first.
+/// Commutes two effects, except that those primitives of the first stay first that undo members of a set.
 fn effects_pass(
     alloc: Global,
     r: &Seq,
@@ -162,7 +163,7 @@ fn in_order(alloc: Global, common: &Seq, s: Seq) -> Result<Seq, AllocError>
     Ok(ordered(whole))
 }
 
-/// Returns the labels of the inverses in a list whose absolute labels are in a set.
+/// Returns the labels of those inverses in a list whose absolute labels are in a set.
 fn labels_undone(alloc: Global, r: &[Named], ys: &CtxSet) -> Result<Vec<Label>, AllocError>
     ensures { IfOk result (λ labels. labels.items ≡ labels_undone r.now ys.now) }
 {

@@ -4,7 +4,7 @@ ghost use Rattle.camp_catch.specs.declared.faults.Unmade.TheVariants as unmade;
 
 use std::alloc::{AllocError, AllocFailed};
 
-/// Why an operation has no result: it is blocked by this, or memory ran out.
+/// Why an operation has no result: it is blocked, or memory ran out.
 #[derive(Clone, Copy, Debug)]
 pub enum Unmade<W> {
     Blocked(W),

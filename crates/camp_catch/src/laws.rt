@@ -21,7 +21,7 @@ pub fn merge_is_symmetric()
     ensures law { CatchMergeIsSymmetric }
 {}
 
-/// The cases of commuting exclude one another.
+/// No two cases of commuting apply to the same two catches.
 #[tactic(auto, using(crate::proofs::CommuteCases::cases_exclude))]
 pub fn cases_exclude_one_another()
     ensures law { CasesExclude }
@@ -32,7 +32,7 @@ pub fn commute_is_unique()
     ensures law { CatchCommuteIsUnique }
 {}
 
-/// The cases of merging exclude one another.
+/// No two cases of merging apply to the same two catches.
 #[tactic(auto, using(crate::proofs::MergeCases::cases_exclude))]
 pub fn merge_cases_exclude()
     ensures law { MergeCasesExclude }
@@ -49,14 +49,13 @@ pub fn lists_keep_effects()
     ensures law { ListsKeepEffects }
 {}
 
-/// Commuting, merging, arranging, aligning and merging lists keep labels.
+/// Commuting, merging, arranging, aligning and merging lists keep absolute labels.
 #[tactic(auto, using(crate::proofs::KeptLabels::keep_labels))]
 pub fn labels_are_kept()
     ensures law { KeepLabels }
 {}
 
-/// Arranging, aligning and merging a list have at most one result, and at most one pair of labels if they are
-/// blocked.
+/// Arranging, aligning and merging lists have at most one result and, if they are blocked, at most one pair of labels.
 #[tactic(auto, using(crate::proofs::ListResults::lists_are_unique))]
 pub fn lists_are_unique()
     ensures law { ListsAreUnique }
@@ -68,26 +67,26 @@ pub fn catches_are_decided()
     ensures law { CatchesAreDecided }
 {}
 
-/// Each list either can be arranged, aligned or merged, or is blocked at some labels; never both.
+/// Every list can be arranged, aligned or merged, or is blocked at some labels, but not both.
 #[tactic(auto, using(crate::proofs::ListResults::lists_succeed_or_stick))]
 pub fn lists_succeed_or_stick()
     ensures law { ListsSucceedOrAreBlocked }
 {}
 
-/// Arranging by names depends on which names there are, not on their order.
+/// Arranging by names depends only on which names are given, not on their order.
 #[tactic(auto, using(crate::proofs::ListResults::arrange_by_members))]
 pub fn arrange_goes_by_members()
     ensures law { ArrangeByMembers }
 {}
 
-/// Of plain catches with headroom: if a patch blocks some patches on their way to the front, each set that
-/// has these patches and can be moved to the front has it too.
+/// Of plain catches with headroom: if a patch blocks some patches on their way to the front, every set that has these
+/// patches and can be moved to the front has that patch too.
 pub fn what_stops_comes_along()
     ensures law { BlockersAreIncluded }
 {}
 
-/// Of plain catches with headroom: if each of two sets of patches can be moved to the front, then after the
-/// second was moved there, the rest of the first can be moved to the front of what follows.
+/// Of plain catches with headroom: if each of two sets of patches can be moved to the front, then, once the second is
+/// there, the rest of the first can be moved to the front of what follows.
 pub fn fronts_come_behind_fronts()
     ensures law { FrontsFollowFronts }
 {}

@@ -1,6 +1,6 @@
-//! Catches: plain patches and conflictors, the definitions of commuting and merging them and lists of them, and their
-//! laws. The notions are those of Lynagh's camp patch theory and of `Darcs.Patch.V3.Core`; the cases are this project's
-//! own choice.
+//! Catches: plain patches and conflictors, how they and lists of them commute and merge, and the laws of that. The
+//! notions are those of Lynagh's camp patch theory and of `Darcs.Patch.V3.Core`; the cases are this project's own
+//! choice.
 #![tactic(auto)]
 
 mod aligning;

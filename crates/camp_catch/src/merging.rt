@@ -21,9 +21,9 @@ use camp_prim::{Named, commute};
 use camp_seq::{Seq, invert_all, ordered, past};
 use std::alloc::{AllocError, Global};
 
-/// Merges two catches that begin in the same state: `Some((k', j'))`, where `k'` comes after `j`, and `j'`
-/// after `k`. Two plain catches always merge. `None` if a conflictor neither conflicts with a catch nor
-/// merges cleanly with it.
+/// Merges two catches that begin in the same state: `Some((k', j'))`, where `k'` comes after `j`, and `j'` after `k`.
+/// Two plain catches always merge. A conflictor and another catch do not (`None`) if they neither conflict nor merge
+/// cleanly.
 pub fn merge(alloc: Global, j: &Catch, k: &Catch) -> Result<Option<(Catch, Catch)>, AllocError>
     ensures exact { IfOk result (FindsPair (MergeCatch j.now k.now)) }
 {
@@ -65,7 +65,7 @@ fn clean(a: &Named, b: &Named) -> Result<Option<(Catch, Catch)>, AllocError>
     Ok(Some((Catch::Plain(b), Catch::Plain(back.invert()))))
 }
 
-/// Commutes the inverse of `a` past `b`: `a^ b <-> b' back`; `None` if they do not commute.
+/// Commutes the inverse of `a` past `b`: `a^ b <-> b' back`; `None` if the two do not commute.
 fn before_inverse(a: &Named, b: &Named) -> Result<Option<(Named, Named)>, AllocError>
     ensures { IfOk result (FindsPair (Commute (inverse_of a.now) b.now)) }
 {
@@ -183,7 +183,7 @@ pub(crate) fn conflict_before(j: &Conflictor, k: &Conflictor) -> Result<bool, Al
     conflict(&x, &y)
 }
 
-/// Moves a contexted patch from before a list to after it.
+/// Turns a contexted patch that is seen before a list into what is seen after it.
 pub(crate) fn seen_behind(list: &Seq, x: &Contexted) -> Result<Contexted, AllocError>
     ensures { IfOk result (AddsAll (inverse_all list.now) x.now) }
 {

@@ -15,7 +15,7 @@ use camp_prim::Key;
 use camp_share::{Share, Shared};
 use std::alloc::{AllocError, Global};
 
-/// Two catches of the same state that do not merge.
+/// Two catches that begin in the same state and do not merge.
 #[derive(Clone, Copy, Debug, PartialEq, Eq)]
 pub struct NoMerge {
     pub left: Key,
@@ -68,7 +68,7 @@ fn merge_with_all(
     Ok(settled)
 }
 
-/// Merges `j` and the `k` of the same state, in place.
+/// Merges `j` and `k`, which begin in the same state, in place.
 pub(crate) fn merge_one(
     alloc: Global,
     j: &mut Shared<Catch>,

@@ -10,8 +10,8 @@ use camp_prim::Key;
 use camp_share::Shared;
 use std::alloc::{AllocError, Global};
 
-/// Commutes a catch, which is after a list, to before all of it, in place. `Some` with the absolute label of
-/// the catch that blocks it, if there is one; both are then partly commuted.
+/// Commutes a catch, which comes after a list, to before all of it, in place. If a catch blocks it, returns the
+/// absolute label of that one; both are then partly commuted.
 pub(crate) fn come_before(
     list: &mut [Gaining],
     coming: &mut Shared<Catch>,

@@ -1,4 +1,4 @@
-//! Conflictors made from others: with another effect, other conflicts, another identity.
+//! Conflictors made from others: with another effect, other conflicts or another identity.
 ghost use Rattle.std.specs.Prelude.{◌≡◌, ◌↔◌, IfOk, IsTrue};
 ghost use Rattle.camp_base.specs.Answers.{Finds};
 ghost use Rattle.camp_seq.specs.NormalOrder.{Norm};
@@ -28,8 +28,8 @@ fn set_before(a: &Named, s: Seq, k: &Conflictor, i: Contexted) -> Result<Conflic
     })
 }
 
-/// Makes `(s', X', i')`, where `s'` is `s` in normal order, `a` added to `X` gives `X'`, and `i'` is `i` as
-/// `a` has passed it; `None` if `a` cannot pass `i`.
+/// Makes `(s', X', i')`, where `s'` is `s` in normal order, `a` added to `X` gives `X'`, and `a` commuted past `i`
+/// gives `i'`; `None` if `a` cannot pass `i`.
 pub(crate) fn passes_before(
     a: &Named,
     s: Seq,
@@ -78,8 +78,8 @@ pub(crate) fn both_behind(r: &Seq, s: Seq, k: &Conflictor) -> Result<Conflictor,
     others_before(&back, s, k, &k.conflicts)
 }
 
-/// Makes `(s, X', i')`, where `r` added to `X` gives `X'`, and `i'` is `i` as `r` has passed it; `None` if
-/// `r` cannot pass `i`.
+/// Makes `(s, X', i')`, where `r` added to `X` gives `X'`, and `r` commuted past `i` gives `i'`; `None` if `r` cannot
+/// pass `i`.
 pub(crate) fn all_pass_before(
     r: &Seq,
     s: Seq,

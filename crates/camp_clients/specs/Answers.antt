@@ -1,4 +1,4 @@
--- What an answer says of the history, from the prefix before it to the prefix at which it was given.
+-- What an answer says of the history: of the prefix before its call, and of the prefix at which it was given.
 use Rattle.std.specs.Prelude.{◌≡◌, ℕ, ◌≤◌, List, [], ◌∷◌, ◌++◌, length, Option, None, Some, Result, Ok, Err, MatchOption}
 use Rattle.camp_object.specs.Asking.{Ask, Caller}
 use Rattle.camp_object.specs.Histories.{IsAccepted, IsAnswered, IsBeginning, own}
@@ -6,7 +6,7 @@ use Rattle.camp_object.specs.Objects.{Sequential}
 use Rattle.camp_object.specs.declared.faults.Fault.{Fault}
 use Rattle.camp_object.specs.declared.faults.Fault.TheVariants.{Memory, Busy, Full}
 
--- the position in an answer, if its call was accepted
+-- the position in an answer to an accepted call; none in any other
 abbrev pub reported_position : {State Call Reply : Type 0} → Sequential State Call Reply → Result Reply Fault → Option ℕ
 reported_position object (Ok reply) = object.done_at reply
 reported_position object (Err fault) = None
@@ -31,7 +31,8 @@ pub record SectionStep {State Call Reply : Type 0} (object : Sequential State Ca
   pub asks : Ask object caller seen call answer now
   pub continues : SectionContinues answer
 
--- done: the prefix ends with the call, which was accepted after the calls before it; the answer gives its length
+-- the answer `Done`: the prefix ends with the call, which was accepted after the calls before it; the answer contains
+-- the prefix's length
 pub record IsDone {Call : Type 0} (seat : ℕ) (before : List (ℕ × Call)) (call : Call) (at : ℕ)
     (prefix : List (ℕ × Call)) : Type 0 where
   pub at_acceptance : List (ℕ × Call)
@@ -39,7 +40,8 @@ pub record IsDone {Call : Type 0} (seat : ℕ) (before : List (ℕ × Call)) (ca
   pub ends : at_acceptance ++ (seat, call) ∷ [] ≡ prefix
   pub position : at ≡ length prefix
 
--- busy: after the prefix before, at least `tries` calls of other seats were accepted, and none of this seat
+-- the answer `Busy`: after the prefix before, at least `tries` calls of other seats were accepted, and none of this
+-- seat
 pub record IsOvertaken {Call : Type 0} (seat tries : ℕ) (before : List (ℕ × Call)) (lost : ℕ)
     (prefix : List (ℕ × Call)) : Type 0 where
   pub others : List (ℕ × Call)
@@ -48,7 +50,7 @@ pub record IsOvertaken {Call : Type 0} (seat tries : ℕ) (before : List (ℕ ×
   pub enough : tries ≤ length others
   pub all_lost : lost ≡ tries
 
--- what an answer says among threads; any reply but done is that of the object at that prefix
+-- what an answer says among threads; a reply to a call that was not accepted is that of the object at that prefix
 abbrev pub SaysAmongThreads : {State Call Reply : Type 0} → Sequential State Call Reply → (seat tries : ℕ)
     → List (ℕ × Call) → Call → Result Reply Fault → List (ℕ × Call) → Type 0
 SaysAmongThreads object seat tries before call (Ok reply) prefix =
@@ -58,8 +60,8 @@ SaysAmongThreads object seat tries before call (Err Memory) prefix = ⊥
 SaysAmongThreads object seat tries before call (Err (Busy lost)) prefix = IsOvertaken seat tries before lost prefix
 SaysAmongThreads object seat tries before call (Err Full) prefix = ⊥
 
--- what an answer says if nobody else asks: it is that of the object at the history as it was, and only a call that is
--- done adds to the history, and only itself
+-- what an answer says if nobody else asks: it is that of the object at the history before; an accepted call, and
+-- nothing else, is then added to the history
 abbrev pub SaysAlone : {State Call Reply : Type 0} → Sequential State Call Reply → (seat : ℕ)
     → List (ℕ × Call) → Call → Result Reply Fault → List (ℕ × Call) → Type 0
 SaysAlone object seat before call (Ok reply) prefix =
@@ -67,7 +69,7 @@ SaysAlone object seat before call (Ok reply) prefix =
     (λ at. (prefix ≡ before ++ (seat, call) ∷ []) × (at ≡ length prefix))
 SaysAlone object seat before call (Err fault) prefix = ⊥
 
--- a call that is done was accepted at the replay of the history as it was
+-- a call that was accepted was so at the replay of the history before it
 pub record StepsAlone {State Call Reply : Type 0} (object : Sequential State Call Reply) (seat : ℕ)
     (before : List (ℕ × Call)) (call : Call) (answer : Result Reply Fault) (prefix : List (ℕ × Call)) : Type 0 where
   pub says : SaysAlone object seat before call answer prefix

@@ -9,7 +9,7 @@ use Rattle.camp_clients.specs.Answers.{SectionStep}
 use Rattle.camp_clients.specs.Runs.{section_of}
 use Rattle.camp_clients.specs.Sections.{Section}
 
--- a seat at which a section can begin: it is one of the head, there is a section for it, and it has no calls yet
+-- a seat at which a section can begin: it is a seat of the head, has a section, and has no calls yet
 pub record IsReady {State Call : Type 0} (head : HeadId State) (sections : ℕ) (seat : SeatState State Call) : Type 0 where
   pub is_seat : IsSeatOf head seat
   pub has_section : seat_number seat < sections
@@ -17,14 +17,14 @@ pub record IsReady {State Call : Type 0} (head : HeadId State) (sections : ℕ) 
 
 module _ {State Call Reply : Type 0} (object : Sequential State Call Reply) (head : HeadId State)
     (sections : List (List Call)) where
-  -- a client asked the section of its seat
+  -- a client has asked the calls of its seat's section
   pub record Ran (before after : SeatState State Call) (answers : List (Result Reply Fault)) : Type 0 where
     pub is_seat : IsSeatOf head after
     pub number : seat_number after ≡ seat_number before
     pub section : Section (SectionStep object (caller_at head before)) (history_of before)
         (section_of sections (seat_number before)) answers (history_of after)
 
-  -- all clients asked their sections: their seats, and their answers after those of the opening
+  -- all clients have asked their sections: their seats, and their answers, which come after those of the opening
   pub record AllRan {Z : Type 0} (opening : Vec (Result Reply Fault) Z) (before after : List (SeatState State Call))
       (answers : List (Vec (Result Reply Fault) Z)) : Type 0 where
     pub brought : List (SeatState State Call × Vec (Result Reply Fault) Z)

@@ -1,22 +1,23 @@
--- Comparing a history with answers, entry by entry: an index into each section, up to which its calls were found.
+-- Comparing a history with answers, entry by entry; for each section the index after the last call that was found.
 use Rattle.std.specs.Prelude.{◌≡◌, ℕ, ◌<◌, List, ◌∷◌, ◌++◌, length, drop, slice_index_or, slice_set, Option}
 use Rattle.camp_clients.specs.Positions.{own_at, done_at}
 use Rattle.camp_clients.specs.Runs.{section_of}
 
--- the calls of a seat that are done, from an index of its section on
+-- those calls of a seat's section that were accepted, from an index of the section on
 abbrev pub left_from : {Call Answer : Type 0} → (Answer → Option ℕ) → List (List Call) → List (List Answer)
     → (seat from : ℕ) → List (ℕ × Call)
 left_from reported_position sections answers seat from =
     done_at reported_position (drop from (section_of sections seat)) (drop from (section_of answers seat))
 
--- the done calls of each section are those found in a prefix of the history, followed by those not found yet
+-- the accepted calls of each section are those found in a prefix of the history, followed by those not found yet
 abbrev pub AreFoundUpTo : {Call Answer : Type 0} → (Answer → Option ℕ) → List (List Call) → List (List Answer)
     → List (ℕ × Call) → List ℕ → Type 0
 AreFoundUpTo reported_position sections answers prefix indexes = (seat : ℕ) → seat < length sections →
     done_at reported_position (section_of sections seat) (section_of answers seat)
     ≡ own_at seat 0 prefix ++ left_from reported_position sections answers seat (slice_index_or indexes seat 0)
 
--- the entry at a position is the first done call of its section that is not found yet; `after` has the index after it
+-- the entry at a position is the first accepted call of its section that is not found yet; `after` has the index after
+-- that call
 pub record Matches {Call Answer : Type 0} (reported_position : Answer → Option ℕ) (sections : List (List Call))
     (answers : List (List Answer)) (at : ℕ) (entry : ℕ × Call) (indexes after : List ℕ) : Type 0 where
   pub is_section : entry.0 < length sections
@@ -25,7 +26,7 @@ pub record Matches {Call Answer : Type 0} (reported_position : Answer → Option
       ≡ (at, entry.1) ∷ left_from reported_position sections answers entry.0 index
   pub moves : after ≡ slice_set indexes entry.0 index
 
--- the entry at a position is not the first done call of its section that is not found yet
+-- the entry at a position is not the first accepted call of its section that is not found yet
 abbrev pub Differs : {Call Answer : Type 0} → (Answer → Option ℕ) → List (List Call) → List (List Answer)
     → (at : ℕ) → ℕ × Call → List ℕ → Type 0
 Differs {Call} reported_position sections answers at entry indexes = entry.0 < length sections → (rest : List (ℕ × Call)) →

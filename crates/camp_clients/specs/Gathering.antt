@@ -1,15 +1,15 @@
--- Gathering the answers that threads return.
+-- Gathering the results that threads return.
 use Rattle.std.specs.Prelude.{◌≡◌, List, ◌∷◌, ◌++◌, map, Result, Ok}
 use Rattle.std.specs.List.{AllZip}
 
--- the elements that were there first, followed by those that each thread returned
+-- the given elements, followed by those that each thread returned
 pub record Gathers {Own Fault : Type 0}
     (first : List Own) (made : List (Result Own Fault)) (all : List Own) : Type 0 where
   pub others : List Own
   pub begins : all ≡ first ++ others
   pub brought : AllZip (λ one own. one ≡ Ok own) made others
 
--- the seats that threads return, and the answers: the opening's, followed by theirs
+-- the seats that threads return, and the answers: those of the opening, followed by theirs
 pub record AreSeparated {Seat Own Fault : Type 0}
     (opening : Own) (made : List (Result (Seat × Own) Fault)) (seats : List Seat) (all : List Own) : Type 0 where
   pub pairs : List (Seat × Own)

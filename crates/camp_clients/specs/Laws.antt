@@ -18,14 +18,14 @@ module _ {State Call Reply : Type 0} (object : Sequential State Call Reply) wher
   LockedIsSerial = (calls : List Call) (answers : List (List (Result Reply Fault))) (history : List (ℕ × Call))
       → IsLocked object (calls ∷ []) answers history → OneByOne object 0 [] (calls ∷ []) answers history
 
-  -- in a serial run whose history is legal, each call that is done was accepted at the replay of the calls before it
+  -- in a serial run whose history is legal, each accepted call was so at the replay of the calls before it
   abbrev pub DoneWasAccepted : Type 0
   DoneWasAccepted = (sections : List (List Call)) (answers : List (List (Result Reply Fault)))
       (history : List (ℕ × Call)) → IsLegal object history → OneByOne object 0 [] sections answers history
       → InTurn (StepsAlone object) 0 [] sections answers history
 
-  -- the opening of a run over a head runs alone: the history begins with its accepted calls, in their order, and with
-  -- no other call between them
+  -- the opening of a run over a head runs alone: the history begins with its accepted calls, in their order, without
+  -- any other call between them
   abbrev pub OpeningIsAlone : Type 0
   OpeningIsAlone = (tries : ℕ) (sections : List (List Call)) (answers : List (List (Result Reply Fault)))
       (history : List (ℕ × Call)) → 0 < tries → 0 < length sections → IsShared object tries sections answers history

@@ -1,17 +1,17 @@
--- Sections of calls: how the prefixes of their answers follow one another.
+-- Sections of calls: how the prefixes at which their answers are given follow one another.
 use Rattle.std.specs.Prelude.{◌≡◌, ℕ, List, [], ◌∷◌}
 use Rattle.camp_history.specs.Opening as opening
 
--- sections of a run: an opening, and one for each client
+-- the most sections of a run: an opening, and one for each client
 abbrev pub most_run_sections : ℕ
 most_run_sections = 64
 
--- tries of a call over a head
+-- the most lost compare-exchanges of a call over a head
 abbrev pub most_run_tries : ℕ
 most_run_tries = opening.most_tries
 
--- a section: each answer was given at a prefix of the history, and `Says` relates it to that prefix and to the prefix of
--- the answer before it; `first` is the prefix at the start, `last` the one at the end
+-- a section: each answer was given at a prefix of the history, and `Says` relates it to that prefix and to the one of
+-- the answer before it; `first` is the prefix at the start, and `last` the one at the end
 abbrev pub Section : {Prefix Call Answer : Type 0} → (Prefix → Call → Answer → Prefix → Type 0)
     → Prefix → List Call → List Answer → Prefix → Type 0
 Section Says first [] [] last = first ≡ last

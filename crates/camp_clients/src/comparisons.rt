@@ -12,8 +12,8 @@ use camp_object::{Fault, Object};
 /// The most sections of a run.
 pub const MAX_SECTIONS: usize = 64;
 
-/// True if a history has exactly the calls that the replies report as done, under the numbers of their
-/// sections and at their positions. Makes one pass over the history and the replies.
+/// True if a history has exactly the calls that the replies report as accepted, with the numbers of their sections and
+/// at their positions. Makes one pass over the history and the replies.
 pub fn has_exactly<State: Object>(
     history: &[(u32, State::Call)],
     sections: &[Vec<State::Call>],
@@ -38,8 +38,8 @@ pub fn has_exactly<State: Object>(
     true
 }
 
-/// True if an entry of the history is the next done call of its section, at its position; then advances the
-/// section's index past it.
+/// True if an entry of the history is the next accepted call of its section, at its position; then moves the section's
+/// index to after that call.
 fn matches_next<State: Object>(
     at: u64,
     entry: &(u32, State::Call),
@@ -72,7 +72,7 @@ fn matches_next<State: Object>(
     }
 }
 
-/// True if no call of a section is done from an index on.
+/// True if no call of a section was accepted from an index on.
 fn is_used_up<State: Object>(
     sections: &[Vec<State::Call>],
     answers: &[Vec<Result<State::Reply, Fault>>],
@@ -87,7 +87,7 @@ fn is_used_up<State: Object>(
     next_done::<State>(&sections[seat], &answers[seat], from).is_none()
 }
 
-/// Returns the first done call of a section from an index on: the index after it, its position, and the call.
+/// Returns the first accepted call of a section from an index on: the index after it, its position, and the call.
 fn next_done<'a, State: Object>(
     calls: &'a [State::Call],
     answers: &[Result<State::Reply, Fault>],
@@ -107,7 +107,7 @@ fn next_done<'a, State: Object>(
     None
 }
 
-/// Returns the position that a reply reports, if its call was accepted.
+/// Returns the position in a reply to an accepted call.
 fn reported_position<State: Object>(answer: &Result<State::Reply, Fault>) -> Option<u64>
     ensures { result ≡ reported_position State.object answer.now }
 {

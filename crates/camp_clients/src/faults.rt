@@ -10,7 +10,8 @@ use thiserror::Error;
 pub enum LockFault {
     #[error("out of memory")]
     Memory,
-    /// The history has a call that no reply reports as done, or lacks one, or begins with another state.
+    /// The history has a call that no reply reports as accepted, or lacks one that a reply reports, or begins with
+    /// another state.
     #[error("foreign call")]
     Foreign,
 }

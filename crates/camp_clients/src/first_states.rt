@@ -1,11 +1,11 @@
-//! The state that a history begins with.
+//! The initial state of a history.
 ghost use Rattle.std.specs.Prelude.{◌≡◌, ◌↔◌, IfOk, IsTrue};
 ghost use Rattle.camp_object.specs.Objects.{IsFirst};
 
 use camp_object::{Book, Object};
 use std::alloc::{AllocError, Global};
 
-/// Returns the initial state, with which a history can begin.
+/// Returns the default initial state of a history.
 pub(crate) fn initial<State: Object>(alloc: Global) -> Result<State, AllocError>
     ensures exact { IfOk result (λ state. state ≡ State.object.initial) }
     ensures first { IfOk result (IsFirst State.object) }

@@ -80,9 +80,9 @@ where
     shared_from(alloc, initial(alloc)?, plan)
 }
 
-/// Runs sections of calls over a head with a seat for each: the first alone, and then each further one in a
-/// thread of its own, whose seat was synchronised with seat 0. Afterwards seat 0 is synchronised with every
-/// seat; what it has seen is the history, which begins with a state.
+/// Runs sections of calls over a head with a seat for each: the first section alone, and then each other one in a
+/// thread of its own, whose seat was synchronised with seat 0. Finally seat 0 is synchronised with every seat; what it
+/// has then seen is the whole history, which begins with the given state.
 pub fn shared_from<
     R: Threads + Wait + Sync,
     State: Object + Send + Sync,
@@ -156,8 +156,8 @@ impl<'a, R: Wait, State: Object, G: Gate, S: SectionGate> Run<'a, R, State, G, S
         at_desk(self.alloc, &mut desk, calls)
     }
 
-    /// Runs the section of a client's seat, and then publishes a snapshot of what the seat has seen, if there
-    /// is memory for it.
+    /// Runs the section of a client's seat. Then publishes a snapshot of what the seat has seen, unless memory runs out
+    /// for that.
     fn client(&self, seat: Seat<State>) -> Result<(Seat<State>, Answers<State>), AllocError>
         requires { IsReady self.now.head.now (length self.now.sections.now) seat }
         ensures { IfOk result (λ ran. Ran (begun State.object self.now.head.now.first) self.now.head.now (lists_of self.now.sections.now) seat ran.0 ran.1.items) }
@@ -182,8 +182,7 @@ where
     State::Call: Send + Sync,
     State::Reply: Send,
 {
-    /// Runs the section of each seat in a thread of its own. The replies come after those of the first
-    /// section.
+    /// Runs the section of each other seat in a thread of its own. Their replies come after those of the first section.
     fn clients(
         &self,
         opening: Answers<State>,
@@ -204,8 +203,8 @@ where
         separate_seats(self.alloc, opening, made)
     }
 
-    /// Runs the first section alone, and then each further one in a thread of its own. Afterwards the seat of
-    /// the first has seen the whole history.
+    /// Runs the first section alone, and then each other one in a thread of its own. Finally the seat of the first has
+    /// seen the whole history.
     fn all(
         &self,
         opener: Seat<State>,
@@ -225,20 +224,20 @@ where
         let (seats, opener) = synchronise_each_with::<State>(self.alloc, self.head, seats, opener)?;
         let (seats, answers) = self.clients(opening, seats)?;
         let opener = synchronise_with_all::<State>(self.alloc, self.head, opener, seats)?;
-        // Its clauses show the prover that what the seat has seen is legal.
+        // The clauses of this call show the prover that what the seat has seen is legal.
         let _number = opener.number();
         Ok((opener, answers))
     }
 }
 
-/// Allocates bytes that a client keeps and never uses, so that its later allocations are shifted; of eight seats each
-/// has another size. Threads allocate from heaps that begin at multiples of 64 megabytes; without the shift, what
+/// Allocates bytes that a client keeps and never uses, of a size that differs among eight seats, to shift the client's
+/// later allocations. Threads allocate from heaps that begin at multiples of 64 megabytes; without the shift, what
 /// clients allocate in the same order would map to the same sets of the processor's caches.
 fn shift(alloc: Global, seat: u32) -> Option<Vec<u8>> {
     Vec::with_capacity(alloc, (seat % 8 * 4_160) as usize).ok()
 }
 
-/// Runs a section of calls at the desk of a head. A function of its own only for the prover: it states the
+/// Runs a section of calls at the desk of a head. It is a function of its own for the prover only: it states the
 /// clauses of any desk for this one.
 fn at_desk<'r, 'h, 's, 'g, R: Wait, State: Object, G: Gate>(
     alloc: Global,

@@ -14,7 +14,8 @@ pub fn locked_is_serial<State: Object>()
     ensures law { LockedIsSerial State.object }
 {}
 
-/// In a serial run whose history is legal, each call that is done was accepted after the calls before it.
+/// In a serial run whose history is legal, each call that is reported as accepted was accepted after the calls before
+/// it.
 #[tactic(auto, using(crate::proofs::Single::done_was_accepted))]
 pub fn done_was_accepted<State: Object>()
     ensures law { DoneWasAccepted State.object }

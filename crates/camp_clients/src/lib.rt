@@ -1,4 +1,4 @@
-//! Sections of calls over one object: one after the other, in threads over a lock, or in threads over a head.
+//! Running sections of calls over one object: one after the other, in threads over a lock, or in threads over a head.
 #![tactic(auto)]
 
 mod comparisons;

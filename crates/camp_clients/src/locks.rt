@@ -36,9 +36,9 @@ where
     locked_from(rt, alloc, first, &same, sections)
 }
 
-/// Runs sections of calls over a book that begins with a state, section k at seat k: the first alone, and then
-/// each further one in a thread of its own, under a lock. Afterwards the history is compared with the replies.
-/// A lock forgets what its book began with, so each thread compares that with the same state.
+/// Runs sections of calls over a book that begins with a state, section k at seat k: the first alone, and then each
+/// other one in a thread of its own, under a lock. Finally the history is compared with the replies. A lock does not
+/// keep the initial state of its book, so each thread compares that with the given state.
 pub fn locked_from<R: Threads + Wait + Sync, State: Object + Send + Sync>(
     rt: &R,
     alloc: Global,
@@ -72,7 +72,7 @@ where
     Ok(BookRun { answers, book })
 }
 
-/// Runs each section but the first in a thread of its own.
+/// Runs each section except the first in a thread of its own.
 fn in_threads<R: Threads + Wait + Sync, State: Object + Send + Sync>(
     rt: &R,
     alloc: Global,
@@ -102,7 +102,7 @@ where
     )
 }
 
-/// Executes the calls of a section, each under the lock.
+/// Executes the calls of a section, taking the lock for each.
 fn ask_locked<R: Wait, State: Object>(
     rt: &R,
     alloc: Global,
@@ -122,7 +122,7 @@ fn ask_locked<R: Wait, State: Object>(
     Ok(answers)
 }
 
-/// Executes one call under the lock, if its book begins with the state.
+/// Executes one call under the lock, if the history of its book begins with the state.
 fn ask_once<R: Wait, State: Object>(
     rt: &R,
     lock: &Mutex<Book<State>>,

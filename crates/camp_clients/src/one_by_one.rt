@@ -64,7 +64,7 @@ pub(crate) fn at_seat<State: Object>(
     at_desk(alloc, &mut desk, calls)
 }
 
-/// Runs a section of calls at the desk of a book. A function of its own only for the prover: it states the
+/// Runs a section of calls at the desk of a book. It is a function of its own for the prover only: it states the
 /// clauses of any desk for this one.
 fn at_desk<'a, State: Object>(
     alloc: Global,

@@ -14,7 +14,8 @@ use std::alloc::{AllocError, Global};
 /// The replies to a section of calls, in order.
 pub type Answers<State> = Vec<Result<<State as Object>::Reply, Fault>>;
 
-/// Executes the calls of a section in order. Out of memory ends it, also if a reply reports it.
+/// Executes the calls of a section in order. The section ends with an error if memory runs out, also if a reply says
+/// so.
 pub fn ask_all<State: Object, D: Desk<State>>(
     alloc: Global,
     desk: &mut D,
@@ -37,7 +38,7 @@ pub fn ask_all<State: Object, D: Desk<State>>(
     Ok(answers)
 }
 
-/// Returns the reply, or out of memory as an error.
+/// Returns the reply, or an error if the reply is out of memory.
 pub(crate) fn unless_memory<Reply>(
     answer: Result<Reply, Fault>,
 ) -> Result<Result<Reply, Fault>, AllocError>
@@ -64,8 +65,8 @@ pub(crate) fn gather<X: Drop>(
     Ok(all)
 }
 
-/// Separates the seats that threads return from the replies: those of the first section, followed by those of
-/// each thread; or returns out of memory if a thread did.
+/// Separates the results of threads into seats and replies; the replies come after those of the first section. Returns
+/// out of memory if a thread did.
 pub(crate) fn separate_seats<Seat: Drop, X: Drop>(
     alloc: Global,
     opening: X,

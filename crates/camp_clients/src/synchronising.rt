@@ -9,7 +9,7 @@ use camp_history::{Head, Seat};
 use camp_object::Object;
 use std::alloc::{AllocError, Global};
 
-/// Synchronises each seat with another one, so that it has seen what that one has.
+/// Synchronises each seat with another one: it then has seen all that the other has.
 pub(crate) fn synchronise_each_with<State: Object>(
     alloc: Global,
     head: &Head<State>,
@@ -36,8 +36,8 @@ pub(crate) fn synchronise_each_with<State: Object>(
     Ok((all, known))
 }
 
-/// Synchronises a seat with each of the others, one after the other. Also returns how many calls it had seen when it was
-/// synchronised with the first of them; 0 if there are no others.
+/// Synchronises a seat with each of the others, one after the other. Also returns the number of calls that it had seen
+/// after the first of them; 0 if there are no others.
 fn synchronise_with_each<State: Object>(
     alloc: Global,
     head: &Head<State>,
@@ -69,9 +69,9 @@ fn synchronise_with_each<State: Object>(
     Ok((known, all, first))
 }
 
-/// Synchronises a seat with each of the others, so that it has seen all that they have. If no client's thread
-/// runs any more, it finds the whole history at the first of them. If it saw more at a later one, each of the
-/// others is synchronised with it once more.
+/// Synchronises a seat with each of the others, so that it has seen all that they have. If no client's thread runs any
+/// more, it finds the whole history at the first of them. If it finds more at a later one, each of them is synchronised
+/// with it once more.
 pub(crate) fn synchronise_with_all<State: Object>(
     alloc: Global,
     head: &Head<State>,

@@ -189,7 +189,7 @@ flag_back : (is_set : Bool) → is_some (empty_file_if is_set) ≡ is_set
 flag_back true = refl
 flag_back false = refl
 
--- a tree whose files are at paths of camp has at a place what stands at its path
+-- if the files of a tree are at valid paths of camp, the file of a path of git or of its attribute is the one at its path in camp
 pub file_at_is : (files : Files) (place : Option Attribute) (path : List ℕ) → HasPathsOnly files → file_at files place path ≡ get files (place_path place path)
 file_at_is files place path only =
     ⊎_elim

@@ -1,4 +1,4 @@
-//! What git knows of a file besides its lines, and the paths of camp at which this is stored.
+//! What git stores of a file besides its lines, and the paths of camp at which this is stored.
 
 ghost use Rattle.std.specs.Prelude.{◌≡◌, IfOk};
 ghost use Rattle.camp_coding.specs.Attributes.{AttributePathsAreFree, AttributePathsDiffer, MakesPath, attribute_folder, attribute_path};
@@ -8,22 +8,22 @@ use crate::escape_path;
 use camp_base::{BaseFault, Path};
 use std::alloc::{AllocError, Global};
 
-/// What a file of camp says of a file of git, besides the file's own lines.
+/// The attributes of a file of git, each of which is a file of camp of its own.
 #[derive(Clone, Copy, Debug, PartialEq, Eq)]
 pub enum Attribute {
-    /// Its mode, the one line of a file in `%m`. A file without it is a regular one.
+    /// Its mode: a file in `%m` with one line. Without it the file is a regular one.
     ModeLine,
-    /// It lacks LF at its end: an empty file in `%n`.
+    /// Its last line lacks LF: an empty file in `%n`.
     LacksNewline,
-    /// Its lines are in pieces: an empty file in `%w`.
+    /// Its lines are stored in pieces: an empty file in `%w`.
     Wrapped,
     /// A commit that changes nothing: an empty file in `%e`, under the id of the commit, which is added and
     /// removed.
     EmptyCommit,
 }
 
-/// Returns the path in camp of a path of git. `BadPath` if camp can't represent it: escaped it has over 200
-/// bytes, or a part of it is empty, `.` or `..`.
+/// Returns the path in camp of a path of git. `BadPath` if camp can't represent it: escaped, it has over 200 bytes, or
+/// a component that is empty, `.` or `..`.
 pub fn encode_path(alloc: Global, path: &[u8]) -> Result<Path, BaseFault>
     ensures exact { MakesPath (escaped_path path.now) result }
 {
@@ -43,12 +43,12 @@ pub fn encode_attribute_path(
     path_of(alloc, &text)
 }
 
-/// No path of git is escaped to the path of an attribute.
+/// No path of git, escaped, is the path of an attribute.
 pub fn attribute_paths_are_free()
     ensures { AttributePathsAreFree }
 {}
 
-/// Two attributes have the same path only if they are of one kind and of one path.
+/// If the paths of two attributes are equal, so are their kinds and their paths of git.
 pub fn attribute_paths_differ()
     ensures { AttributePathsDiffer }
 {}

@@ -9,19 +9,19 @@ use crate::wrapping::{has_long_line, store_plain, store_wrapped};
 use camp_base::{BaseFault, Line};
 use std::alloc::{AllocError, Global};
 
-/// A content of git as the lines of a file of camp, with what the lines alone do not say.
+/// The content of a file of git as lines of camp, with what the lines alone do not say.
 #[derive(Debug, Drop)]
 pub struct EncodedContent {
-    /// The lines of the content or, if one of them has over 4,096 bytes, the pieces of all of them.
+    /// The lines of the content or, if one of them has over 4,096 bytes, the pieces of all lines.
     pub lines: Vec<Line>,
     /// True if the lines are pieces: `+` or `=`, and at most 4,095 bytes. After `+` the line continues, after
     /// `=` it ends.
     pub is_wrapped: bool,
-    /// True if the content has bytes and its last one is not LF.
+    /// True if the content is not empty and its last byte is not LF.
     pub lacks_newline: bool,
 }
 
-/// Encodes a content. Lines end at LF alone: CR is a byte of its line.
+/// Encodes a content. A line ends at LF only: CR is a byte of the line.
 pub fn encode_content(alloc: Global, content: &[u8]) -> Result<EncodedContent, BaseFault>
     ensures exact { IfOk result (λ coded. Encodes content.now coded.lines.items coded.is_wrapped coded.lacks_newline) }
     ensures stores { IfOk result (λ coded. StoresContent content.now coded.lines.items coded.is_wrapped coded.lacks_newline) }
@@ -36,8 +36,8 @@ pub fn encode_content(alloc: Global, content: &[u8]) -> Result<EncodedContent, B
     })
 }
 
-/// Returns the content that stored lines represent. `None` if they are declared to be pieces, and one has no
-/// mark, or the last one does not end its line.
+/// Returns the content that stored lines represent. `None` if the lines are said to be pieces, and one has no mark, or
+/// the last one does not end its line.
 pub fn decode_content(
     alloc: Global,
     stored: &[Line],

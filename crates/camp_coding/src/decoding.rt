@@ -11,16 +11,16 @@ use crate::{Attribute, Mode, decode_content, parse_mode};
 use camp_base::{Line, Tree};
 use std::alloc::{AllocError, Global};
 
-/// An entry of a git tree that was decoded from a camp tree.
+/// An entry of a git tree, decoded from a camp tree.
 #[derive(Debug, Drop)]
 pub struct DecodedFile {
     /// The mode of the entry.
     pub mode: Mode,
-    /// The bytes of the file, the target of the link, or the id of the submodule and LF.
+    /// The bytes of a file, the target of a link, or the id of a submodule and LF.
     pub content: Vec<u8>,
 }
 
-/// Decodes the entry of git at a path. Returns None if the camp tree has no code of an entry there.
+/// Decodes the entry of git at a path. `None` if the camp tree has no code of an entry there.
 pub fn decode_file(
     alloc: Global,
     tree: &Tree,

@@ -1,4 +1,4 @@
-//! A git tree as a camp tree, and back: paths, modes and contents as paths and lines.
+//! Trees of git as trees of camp, and back: paths, modes and contents as paths and lines.
 #![tactic(auto)]
 
 mod attributes;

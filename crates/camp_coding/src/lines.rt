@@ -35,8 +35,7 @@ pub(crate) fn split_lines<'content>(
     Ok(lines_before(lines, last)?)
 }
 
-/// Returns the lines of a content, given its pieces between line feeds; the last one is no line if it is
-/// empty.
+/// Returns the lines of a content, given the pieces between its line feeds; if the last piece is empty, it is no line.
 fn lines_before<'content>(
     mut lines: Vec<&'content [u8]>,
     last: &'content [u8],

@@ -7,16 +7,16 @@ ghost use Rattle.camp_coding.specs.declared.modes.Mode.{Mode};
 
 use crate::paths::is_same_text;
 
-/// The mode of an entry of a git tree that is no tree.
+/// The mode of an entry of a git tree that is not a tree itself.
 #[derive(Clone, Copy, Debug, PartialEq, Eq)]
 pub enum Mode {
     /// A file, 100644.
     Regular,
-    /// A file that can be run, 100755.
+    /// An executable file, 100755.
     Executable,
     /// A symbolic link, 120000. Its content is its target.
     Symlink,
-    /// A commit of another repository, 160000. Its content is the id of the commit.
+    /// A submodule, a commit of another repository, 160000. Its content is the id of the commit.
     Submodule,
 }
 

@@ -6,7 +6,8 @@ ghost use Rattle.camp_coding.specs.GitPaths.{AreBytes, EscapedPathsDiffer, escap
 use percent_encoding::{percent_decode, percent_encode_byte};
 use std::alloc::{AllocError, Global};
 
-/// Escapes a path of git: each byte outside `!` to `~`, and each `%`, becomes `%` and two hexadecimal digits in capitals.
+/// Escapes a path of git: each byte outside `!` to `~`, and each `%`, becomes `%` and two upper-case hexadecimal
+/// digits.
 pub fn escape_path(alloc: Global, path: &[u8]) -> Result<Vec<u8>, AllocError>
     ensures exact { IfOk result (λ text. text.items ≡ escaped_path path.now) }
 {
@@ -17,7 +18,7 @@ pub fn escape_path(alloc: Global, path: &[u8]) -> Result<Vec<u8>, AllocError>
     Ok(text)
 }
 
-/// Returns the path of git that was escaped to a text, or None if there is none.
+/// Returns the path of git whose escaped path this is; `None` if there is none.
 pub fn unescape_path(alloc: Global, text: &[u8]) -> Result<Option<Vec<u8>>, AllocError>
     ensures exact { IfOk result (λ found. MatchOption found
         ((path : List ℕ) → AreBytes path → ¬ (escaped_path path ≡ text.now))
@@ -32,7 +33,7 @@ pub fn unescape_path(alloc: Global, text: &[u8]) -> Result<Option<Vec<u8>>, Allo
     Ok(None)
 }
 
-/// Two paths are equal if they are escaped to the same text.
+/// Two paths of git are equal if their escaped paths are.
 pub fn escaped_paths_differ()
     ensures { EscapedPathsDiffer }
 {}

@@ -1,4 +1,4 @@
-//! Stored lines as text: lines, or pieces of lines.
+//! Stored lines as text: unchanged, or joined from pieces.
 
 ghost use Rattle.std.specs.Prelude.{◌≡◌, ◌++◌, true, false, IfOk, OnOk};
 ghost use Rattle.camp_coding.specs.Contents.{are_pieces, ended_line, ends_line, has_mark, piece_content, stored_text};
@@ -26,7 +26,7 @@ pub(crate) fn are_pieces(stored: &[Line]) -> bool
     is_ended
 }
 
-/// Joins stored lines, or pieces of lines, with a line feed after each line.
+/// Joins stored lines or pieces, with a line feed after each line.
 pub(crate) fn join_stored(
     alloc: Global,
     stored: &[Line],

@@ -1,4 +1,4 @@
-//! Files of a camp tree at the paths of a path of git and of its attributes.
+//! The files of camp that store one file of git: its own, and those of its attributes.
 
 ghost use Rattle.std.specs.Prelude.{◌≡◌, ◌↔◌, true, false, IfOk, OnOk, None, Some, MatchOption, option_map};
 ghost use Rattle.std.specs.FinMap as map;
@@ -12,8 +12,8 @@ use crate::{Attribute, encode_attribute_path, encode_path};
 use camp_base::{Apply, BaseFault, Line, Path, Tree};
 use std::alloc::{AllocError, Global};
 
-/// Sets the lines of the file at the path of a place, or removes the file. `BadPath` where there are lines, and the path is
-/// no path of camp.
+/// Sets the lines of the file of a path of git or of its attribute, or removes that file. `BadPath` if there are lines,
+/// and the path is not valid in camp.
 pub(crate) fn set_place(
     alloc: Global,
     tree: &mut Tree,
@@ -32,7 +32,7 @@ pub(crate) fn set_place(
     Ok(())
 }
 
-/// `BadPath` where there are lines.
+/// Returns `BadPath` if there are lines.
 fn refuse(lines: Option<&[Line]>) -> Result<(), EncodeFault>
     ensures { Refuses (option_map (λ lines. lines.now) lines.entry) result }
 {
@@ -42,7 +42,7 @@ fn refuse(lines: Option<&[Line]>) -> Result<(), EncodeFault>
     Ok(())
 }
 
-/// Returns the lines of the file at the path of a place, or None if there is no file.
+/// Returns the lines of the file of a path of git or of its attribute; `None` if there is no file.
 pub(crate) fn lines_at(
     alloc: Global,
     tree: &Tree,
@@ -67,7 +67,7 @@ fn lines_of(tree: &Tree, path: &Path) -> Result<Option<Vec<Line>>, AllocError>
     }
 }
 
-/// Returns the path of a place, or None if it is no path of camp.
+/// Returns the path in camp of a path of git or of its attribute; `None` if it is not valid there.
 fn find_path(
     alloc: Global,
     place: Option<Attribute>,
@@ -118,7 +118,7 @@ fn clear_file(tree: &mut Tree, path: &Path) -> Result<(), Apply>
     Ok(())
 }
 
-/// Makes the file at a path, where there is none.
+/// Makes a file at a path that has none.
 fn write_file(tree: &mut Tree, path: &Path, lines: &[Line]) -> Result<(), Apply>
     ensures { OnOk result (SetsFile path.now (Some lines.now) tree.old tree.new) }
 {

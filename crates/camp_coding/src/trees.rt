@@ -1,4 +1,4 @@
-//! Entries of a git tree in a camp tree.
+//! The entries of a git tree that a camp tree stores.
 
 ghost use Rattle.std.specs.Prelude.{◌≡◌, IfOk, None, Some, OnOk};
 ghost use Rattle.camp_coding.specs.GitTrees.{PutsFile, RemovesFile, TreesComeBack, empty_file_if, mode_lines, place_path};
@@ -17,14 +17,14 @@ use thiserror::Error;
 /// The most lines of a file of camp.
 pub const MAX_LINES: usize = 1_000_000;
 
-/// Why camp can't hold an entry of a git tree.
+/// Why camp can't store an entry of a git tree.
 #[derive(Clone, Copy, PartialEq, Eq, Debug, Error)]
 pub enum EncodeFault {
-    /// The path of the entry, or that of an attribute of it, is no path of camp: it is too long, or has a part that is empty,
-    /// `.` or `..`.
+    /// The path in camp of the entry, or of an attribute of it, is not valid: it is too long, or has a component that
+    /// is empty, `.` or `..`.
     #[error("the path can't be held")]
     BadPath,
-    /// The content is stored in more than 1,000,000 lines.
+    /// The content would be stored in more than 1,000,000 lines.
     #[error("more than 1,000,000 lines")]
     TooManyLines,
     /// Out of memory.
@@ -48,7 +48,7 @@ impl From<Apply> for EncodeFault {
     }
 }
 
-/// Returns the tree with an entry of git at a path, whatever was there. Paths below it stay.
+/// Returns the tree with this entry of git at a path, instead of any that was there. Entries below the path stay.
 pub fn put_file(
     alloc: Global,
     tree: &Tree,
@@ -85,7 +85,7 @@ pub fn put_file(
     Ok(new)
 }
 
-/// Returns the tree without the entry of git at a path, if there is one. Paths below it stay.
+/// Returns the tree without the entry of git at a path, if there is one. Entries below the path stay.
 pub fn remove_file(alloc: Global, tree: &Tree, path: &[u8]) -> Result<Tree, AllocError>
     ensures exact { IfOk result (λ new. RemovesFile path.now tree.now new) }
 {
@@ -97,7 +97,7 @@ pub fn remove_file(alloc: Global, tree: &Tree, path: &[u8]) -> Result<Tree, Allo
     Ok(new)
 }
 
-/// What is decoded from the code of a git tree is that tree: at each path its entry, or none.
+/// Decoding the code of a git tree gives that tree: at each path its entry, or none.
 pub fn trees_come_back()
     ensures { TreesComeBack }
 {}

@@ -1,4 +1,4 @@
-//! Lines as camp stores them: as they are, or in pieces.
+//! Lines as camp stores them: unchanged, or in pieces.
 
 ghost use Rattle.std.specs.Prelude.{◌≡◌, ◌++◌, ◌∷◌, [], map, IfOk, OnOk};
 ghost use Rattle.std.specs.List.{flat_map, list_any};
@@ -11,7 +11,7 @@ use std::alloc::{AllocError, Global};
 /// The most bytes of a line in one piece.
 const MAX_PIECE: usize = MAX_LINE_LENGTH - 1;
 
-/// Returns true if one of the lines is too long for camp.
+/// Returns true if one of the lines is longer than camp allows.
 pub(crate) fn has_long_line(lines: &[&[u8]]) -> bool
     ensures { result ≡ list_any is_too_long (map (λ line. line.now) lines.now) }
 {
@@ -23,7 +23,7 @@ pub(crate) fn has_long_line(lines: &[&[u8]]) -> bool
     false
 }
 
-/// Stores lines as they are.
+/// Returns lines unchanged, as camp stores them.
 pub(crate) fn store_plain(alloc: Global, lines: &[&[u8]]) -> Result<Vec<Line>, BaseFault>
     ensures { IfOk result (λ stored. stored.items ≡ map (λ line. line.now) lines.now) }
 {
@@ -34,7 +34,7 @@ pub(crate) fn store_plain(alloc: Global, lines: &[&[u8]]) -> Result<Vec<Line>, B
     Ok(stored)
 }
 
-/// Stores lines in pieces.
+/// Returns lines in pieces, as camp stores them.
 pub(crate) fn store_wrapped(alloc: Global, lines: &[&[u8]]) -> Result<Vec<Line>, BaseFault>
     ensures { IfOk result (λ stored. stored.items ≡ flat_map wrapped (map (λ line. line.now) lines.now)) }
 {

@@ -1,4 +1,4 @@
--- Adding a primitive or a list to a contexted patch: what is seen after it becomes what is seen before it.
+-- Adding a primitive or a list to a contexted patch: turns what is seen after it into what is seen before it.
 use Rattle.std.specs.Prelude.{◌≡◌, List, [], ◌∷◌}
 use Rattle.camp_prim.specs.Effect.{inverse_of}
 use Rattle.camp_prim.specs.Labels.{label_of}
@@ -8,7 +8,7 @@ use Rattle.camp_seq.specs.NormalOrder.{Norm}
 use Rattle.camp_seq.specs.Passing.{Passes, Fronts}
 use Rattle.camp_ctx.specs.Contexts.{ContextedPatch}
 
--- cancel: a and c:p give c':p, where c ~ a^ c'; the primitive that is moved to the front is a^ itself
+-- cancel: a and c:p give c':p, where c ~ a^ c' (the inverse of a can be moved to the front of c, and is dropped)
 pub record Cancels (a : Named) (x y : ContextedPatch) : Type 0 where
   pub rest : List Named
   pub front : Fronts (label_of (inverse_of a)) x.context (inverse_of a) rest
@@ -29,17 +29,17 @@ pub record Keeps (a : Named) (x y : ContextedPatch) : Type 0 where
   pub context : Norm (a ∷ x.context) y.context
   pub patch : y.patch ≡ x.patch
 
--- the relation gives nothing
+-- a relation has no result for these
 abbrev pub GivesNone : (ContextedPatch → ContextedPatch → Type 0) → ContextedPatch → Type 0
 GivesNone Change x = (y : ContextedPatch) → ¬ (Change x y)
 
--- adding a to a contexted patch: the first of cancel, commute and keep that gives something
+-- adding a to a contexted patch: of cancel, commute and keep, the first that has a result
 pub data AddsToContext (a : Named) (x y : ContextedPatch) : Type 0 where
   cancel : Cancels a x y → AddsToContext a x y
   commute : GivesNone (Cancels a) x → PassesBy a x y → AddsToContext a x y
   keep : GivesNone (Cancels a) x → GivesNone (PassesBy a) x → Keeps a x y → AddsToContext a x y
 
--- the elements of a list change a contexted patch, from the last to the first
+-- a relation is applied with each element of a list, from the last to the first
 abbrev pub FromLast : (Named → ContextedPatch → ContextedPatch → Type 0) → List Named → ContextedPatch → ContextedPatch → Type 0
 FromLast Change [] x z = z ≡ x
 FromLast Change (a ∷ r) x z = (y : ContextedPatch) × FromLast Change r x y × Change a y z
@@ -48,6 +48,6 @@ FromLast Change (a ∷ r) x z = (y : ContextedPatch) × FromLast Change r x y ×
 abbrev pub AddsAll : List Named → ContextedPatch → ContextedPatch → Type 0
 AddsAll = FromLast AddsToContext
 
--- a list that commutes past a contexted patch
+-- commuting a list past a contexted patch
 abbrev pub PassesByAll : List Named → ContextedPatch → ContextedPatch → Type 0
 PassesByAll = FromLast PassesBy

@@ -9,7 +9,7 @@ use Rattle.camp_seq.specs.Merging.{CleanMerge}
 use Rattle.camp_seq.specs.NormalOrder.{Splits}
 use Rattle.camp_ctx.specs.Contexts.{ContextedPatch, whole}
 
--- a list has an element with this signed label
+-- an element of a list has this signed label
 abbrev pub has_label : List Named → Label → Bool
 has_label s label = list_any (λ p. eq_by_cmp label_cmp (label_of p) label) s
 

@@ -36,7 +36,7 @@ Valid tree x = (after : Files) × AppliesAll (whole x) tree after
 abbrev pub ContextedPatches : Type 0
 ContextedPatches = FinMap key_cmp ContextedPatch
 
--- the key of each member is its own label
+-- each member stands under its own absolute label
 abbrev pub AreKeyed : ContextedPatches → Type 0
 AreKeyed xs = (key : Key) (x : ContextedPatch) → get xs key ≡ Some x → key ≡ context_key x
 
@@ -52,13 +52,13 @@ with_member xs l = if contains_key xs (context_key l) then xs else insert xs (co
 abbrev pub AreValid : Files → ContextedPatches → Type 0
 AreValid tree xs = (key : Key) (x : ContextedPatch) → get xs key ≡ Some x → Valid tree x
 
--- the values of a key before and after a change of members: none both times, or a member and what it becomes
+-- the values of a key in two sets: none in both, or a member and what it becomes
 abbrev pub ChangesAt : (ContextedPatch → ContextedPatch → Type 0) → Option ContextedPatch → Option ContextedPatch → Type 0
 ChangesAt Change None None = Unit {0}
 ChangesAt Change None (Some y) = ⊥
 ChangesAt Change (Some x) None = ⊥
 ChangesAt Change (Some x) (Some y) = Change x y
 
--- a set becomes another by a change of every member; the labels stay
+-- each member of a set becomes the member of the other set with the same label
 abbrev pub EachMember : (ContextedPatch → ContextedPatch → Type 0) → ContextedPatches → ContextedPatches → Type 0
 EachMember Change old new = (key : Key) → ChangesAt Change (get old key) (get new key)

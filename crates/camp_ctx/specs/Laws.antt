@@ -34,12 +34,12 @@ pub record AddingGives : Type 0 where
   pub adds_to_members : (a : Named) → AlwaysGives (EachMember (AddsToContext a))
   pub adds_all_to_members : (r : List Named) → AlwaysGives (EachMember (AddsAll r))
 
--- if a step leads from one tree to another, the relation turns what is valid in the second into something
--- valid in the first
+-- if a step leads from one tree to another, the relation turns what is valid in the second tree into something valid in
+-- the first
 abbrev pub KeepsValid : (ContextedPatch → ContextedPatch → Type 0) → (Files → Files → Type 0) → Type 0
 KeepsValid Change Step = (x y : ContextedPatch) → Change x y → (old new : Files) → Step old new → Valid new x → Valid old y
 
--- the same of the members of a set
+-- the same for each member of a set
 abbrev pub KeepsMembersValid : (ContextedPatch → ContextedPatch → Type 0) → (Files → Files → Type 0) → Type 0
 KeepsMembersValid Change Step =
     (xs ys : ContextedPatches) → EachMember Change xs ys →
@@ -54,12 +54,12 @@ pub record KeepValid : Type 0 where
   pub passes_by : (a : Named) → KeepsValid (PassesBy a) (Applies a.prim)
   pub passes_by_all : (r : List Named) → KeepsValid (PassesByAll r) (AppliesAll r)
 
--- adding the empty list changes nothing, of a contexted patch and of a set
+-- adding the empty list leaves a contexted patch and a set unchanged
 pub record EmptyChangesNothing : Type 0 where
   pub adds : (x y : ContextedPatch) → AddsAll [] x y → y ≡ x
   pub adds_to_members : (xs ys : ContextedPatches) → EachMember (AddsAll []) xs ys → ys ≡ xs
 
--- merging after a common part, and conflicting, are symmetric
+-- whether two merge after a common part, and whether they conflict, does not depend on which comes first
 pub record AreSymmetric : Type 0 where
   pub merges : (s t t' s' : List Named) → MergesBehindCommon s t t' s' → MergesBehindCommon t s s' t'
   pub conflicts : (x y : ContextedPatch) → Conflict x y → Conflict y x

@@ -9,13 +9,13 @@ use Rattle.camp_seq.specs.Shapes.{reach_of}
 use Rattle.camp_ctx.specs.Adding.{AddsAll}
 use Rattle.camp_ctx.specs.Contexts.{ContextedPatch, whole}
 
--- a list has headroom to be added: in any order of it, after its last elements were added, the others
--- followed by the result have headroom
+-- a list has headroom to be added: however its order and a split into first and last elements are chosen, the first
+-- ones followed by the result of adding the last ones have headroom
 abbrev pub HasRoomToAdd : List Named → ContextedPatch → Type 0
 HasRoomToAdd r x =
     (first last : List Named) → r ~ (first ++ last) → (y : ContextedPatch) → AddsAll last x y → HasRoom (first ++ whole y)
 
--- with headroom, adding a list does not depend on the order of its elements
+-- with headroom, the result of adding a list does not depend on the order of its elements
 abbrev pub AddsInAnyOrder : Type 0
 AddsInAnyOrder =
     (r s : List Named) (x y : ContextedPatch) → HasRoomToAdd r x → r ~ s → AddsAll r x y → AddsAll s x y

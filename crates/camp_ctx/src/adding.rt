@@ -21,8 +21,8 @@ use std::alloc::{AllocError, Global};
 use std::slice;
 
 impl Contexted {
-    /// AddsToContext a list: turns what is seen after the list into what is seen before it. The primitives are added
-    /// from the last to the first.
+    /// Adds a list: turns what is seen after the list into what is seen before it. The primitives are added from the
+    /// last to the first.
     pub fn add(r: &Seq, x: &Contexted) -> Result<Contexted, AllocError>
         ensures exact { IfOk result (λ y. AddsAll r.now x.now y) }
     {
@@ -32,7 +32,7 @@ impl Contexted {
         Ok(all)
     }
 
-    /// AddsToContext a list and consumes it. A chain that is linked to an empty context becomes the context without a copy.
+    /// Adds a list and consumes it. A chain that is linked to an empty context becomes the context without a copy.
     pub fn add_given(r: Seq, x: &Contexted) -> Result<Contexted, AllocError>
         ensures exact { IfOk result (λ y. AddsAll r x.now y) }
     {
@@ -44,8 +44,8 @@ impl Contexted {
         Contexted::told(x.allocator(), r, patch, told)
     }
 
-    /// AddsToContext a primitive: removes its inverse from the front of the context if it can be moved there; else
-    /// commutes it past the context and the patch; else inserts it before the context.
+    /// Adds a primitive: removes its inverse from the front of the context if it can be moved there; else commutes it
+    /// past the context and the patch; else inserts it before the context.
     pub fn add_one(a: &Named, x: &Contexted) -> Result<Contexted, AllocError>
         ensures exact { IfOk result (λ y. AddsToContext a.now x.now y) }
     {
@@ -54,8 +54,8 @@ impl Contexted {
         Ok(sum)
     }
 
-    /// Commutes a list past a contexted patch, from its last primitive to its first: the contexted patch as
-    /// it is seen before the list, or `None` if one primitive cannot pass.
+    /// Commutes a list past a contexted patch, from its last primitive to its first. Returns the contexted patch as it
+    /// is seen before the list, or `None` if one primitive cannot pass.
     pub fn past(r: &Seq, x: &Contexted) -> Result<Option<Contexted>, AllocError>
         ensures exact { IfOk result (Finds (PassesByAll r.now x.now)) }
     {
@@ -70,8 +70,8 @@ impl Contexted {
         Ok(Some(passed))
     }
 
-    /// Commutes a primitive past the context and the patch: the contexted patch as it is seen before it, or
-    /// `None` if it cannot pass.
+    /// Commutes a primitive past the context and the patch. Returns the contexted patch as it is seen before the
+    /// primitive, or `None` if it cannot pass.
     pub fn past_one(a: &Named, x: &Contexted) -> Result<Option<Contexted>, AllocError>
         ensures exact { IfOk result (Finds (PassesBy a.now x.now)) }
     {
@@ -85,8 +85,8 @@ impl Contexted {
     }
 }
 
-/// Completes passing by: the primitive `a` has passed the context, and is `moved` after it; `None` if it cannot pass the
-/// patch too.
+/// Commutes past the patch a primitive that has already passed the context: `a` before the context, `moved` after it.
+/// `None` if it cannot pass the patch.
 fn past_patch(
     a: &Named,
     mut context: Seq,
@@ -104,8 +104,8 @@ fn past_patch(
     Ok(Some(before))
 }
 
-/// AddsToContext the elements of a list, from the last to the first. Copies nothing if a quick check finds that all of
-/// them leave the contexted patch unchanged.
+/// Adds the elements of a list, from the last to the first. Copies nothing if a quick check finds that all of them
+/// leave the contexted patch unchanged.
 fn add_items(r: &[Named], x: Contexted) -> Result<Contexted, AllocError>
     ensures { IfOk result (AddsAll r.now x) }
 {
@@ -116,7 +116,7 @@ fn add_items(r: &[Named], x: Contexted) -> Result<Contexted, AllocError>
     add_to_copy(&r[..count], &x)
 }
 
-/// The same on one copy of the context, which is then changed in place.
+/// Adds the elements of a list, from the last to the first, to one copy of the context, in place.
 fn add_to_copy(r: &[Named], x: &Contexted) -> Result<Contexted, AllocError>
     ensures { IfOk result (AddsAll r.now x.now) }
 {
@@ -139,8 +139,8 @@ fn copy_with_room(x: &Contexted, more: usize) -> Result<Seq, AllocError>
     Ok(copy)
 }
 
-/// AddsToContext a primitive to a context and the patch after it, in place. `told` and the result say whether the
-/// context is known to be its own normal order, before and after.
+/// Adds a primitive to a context and the patch after it, in place. `told` and the result are true only if the context
+/// is its own normal order, before and after.
 fn add_to(a: &Named, context: &mut Seq, patch: &mut Named, told: bool) -> Result<bool, AllocError>
     requires { IsTrue told → Norm context.old context.old }
     ensures adds { IfOk result (λ told. AddsToContext a.now (behind context.old patch.old) (behind context.new patch.new)) }
@@ -158,11 +158,11 @@ fn add_to(a: &Named, context: &mut Seq, patch: &mut Named, told: bool) -> Result
     Ok(told)
 }
 
-/// Puts a context that `a` has passed in normal order; `patch` is the patch that `a` has passed too. True if the context
-/// is then known to be its own normal order.
+/// Puts in normal order a context that `a` has passed, and after it `patch`. True only if the context is then its own
+/// normal order.
 ///
-/// A context that was its own normal order before (`told`) is not ordered again if `a` and the rest have headroom to
-/// merge: then `a^`, the context and the patch have headroom, since `a^` reaches as far as `a`.
+/// With `told`, the context was its own normal order before. It is then not ordered again if `a` and the rest have
+/// headroom to merge: then `a^`, the context and the patch have headroom, since `a^` reaches as far as `a`.
 fn order_passed(a: &Named, context: &mut Seq, patch: &Named, told: bool) -> bool
     requires { IsTrue told → KeepsOrder a.now context.old patch.now }
     ensures order { Norm context.old context.new }
@@ -177,8 +177,8 @@ fn order_passed(a: &Named, context: &mut Seq, patch: &Named, told: bool) -> bool
     true
 }
 
-/// Returns the list after the inverse of `a` at its front. `None` if the primitive that can be moved to the
-/// front is not that inverse.
+/// Moves the inverse of `a` to the front of the list, and returns the list after it. `None` if the list has no
+/// primitive with its label that can be moved there, or that primitive is not the inverse of `a`.
 fn behind_inverse(a: &Named, s: &Seq) -> Result<Option<Seq>, AllocError>
     ensures exact { IfOk result
         (Finds (λ rest. Fronts (label_of (inverse_of a.now)) s.now (inverse_of a.now) rest)) }
@@ -196,7 +196,8 @@ fn behind_inverse(a: &Named, s: &Seq) -> Result<Option<Seq>, AllocError>
     Ok(Some(rest))
 }
 
-/// Makes a contexted patch. Its context counts as its own normal order if `told` is true or the quick check is.
+/// Makes a contexted patch. Its context is marked as its own normal order if `told` is true or a quick check finds it
+/// so.
 fn made(alloc: Global, context: Seq, patch: Named, told: bool) -> Result<Contexted, AllocError>
     requires { IsTrue told → Norm context context }
     ensures { IfOk result (λ y. y ≡ behind context patch) }

@@ -37,8 +37,8 @@ pub fn conflict(x: &Contexted, y: &Contexted) -> Result<bool, AllocError>
     }
 }
 
-/// Merges two lists of the same state after their common part: `Some((t', s'))` if the rests merge cleanly,
-/// where `t'` comes after `s`, and `s'` after `t`.
+/// Merges two lists of the same state after their common part: `Some((t', s'))`, where `t'` comes after `s`, and `s'`
+/// after `t`; `None` if what remains of them does not merge cleanly.
 pub fn merge_behind_common(
     alloc: Global,
     s: &Seq,
@@ -74,7 +74,7 @@ fn whole(x: &Contexted) -> Result<Seq, AllocError>
     )
 }
 
-/// Returns the labels of the elements of `s` that elements of `t` have too.
+/// Returns the labels that elements of both lists have.
 fn common_labels(alloc: Global, s: &[Named], t: &[Named]) -> Result<Vec<Label>, AllocError>
     ensures { IfOk result (λ labels. labels.items ≡ common_labels s.now t.now) }
 {
@@ -84,7 +84,7 @@ fn common_labels(alloc: Global, s: &[Named], t: &[Named]) -> Result<Vec<Label>, 
         .collect(alloc)
 }
 
-/// True if an element of a list has the label.
+/// True if an element of the list has the label.
 pub(crate) fn has_label(s: &[Named], label: &Label) -> bool
     ensures { result ≡ has_label s.now label.now }
 {

@@ -22,7 +22,8 @@ pub struct Contexted {
 struct Parts {
     context: Seq,
     patch: Named,
-    // Results of quick checks: true only if the context, or the context followed by the patch, is its own normal order.
+    // The results of two quick checks, made with the contexted patch: true only if the context, or the context followed
+    // by the patch, is its own normal order.
     context_is_ordered: bool,
     whole_is_ordered: bool,
 }
@@ -48,8 +49,8 @@ impl Contexted {
         Contexted::told(alloc, context, patch, told)
     }
 
-    /// Makes `c:p` from the results of the quick checks: whether the context is its own normal order, and
-    /// whether the whole is.
+    /// Makes `c:p` with the results of the quick checks: whether the context is its own normal order, and whether the
+    /// whole is.
     pub(crate) fn told(
         alloc: Global,
         context: Seq,
@@ -123,15 +124,14 @@ impl Contexted {
         self.context().is_same(other.context()) && self.patch().is_same(other.patch())
     }
 
-    /// Returns the result of a quick check that was made with the contexted patch: true only if the context is its own
-    /// normal order, which it may be also if this is false.
+    /// True only if the context is its own normal order: the result of a quick check, made with the contexted patch.
     pub(crate) fn context_is_ordered(&self) -> bool
         ensures { IsTrue result → Norm self.now.context self.now.context }
     {
         self.parts.context_is_ordered
     }
 
-    /// Returns the result of the same check for the context followed by the patch.
+    /// True only if the context followed by the patch is its own normal order, by the same quick check.
     pub(crate) fn whole_is_ordered(&self) -> bool
         ensures { IsTrue result → Norm (whole self.now) (whole self.now) }
     {

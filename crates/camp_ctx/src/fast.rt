@@ -1,4 +1,4 @@
-//! Faster ways to the results of the definitions. Each applies in some cases, where its result is the defined one.
+//! Faster ways to the results of the definitions. Each applies in some cases only, and gives the defined result there.
 //!
 //! - A chain is a list in which no element commutes with or cancels the next one. Adding its elements one by one would
 //! only insert each at the front of the context, so the whole chain is joined to the context at once. The elements of
@@ -17,14 +17,14 @@
 //! whatever the quick check says.
 //! - A patch without a context whose inverse passes the whole of another contexted patch unchanged does not conflict
 //! with it: the two merge with nothing in common. No list is made.
-//! - Contexted patches that have no file and no absolute label in common do not conflict: their normal orders
-//! have none in common either, and merge unchanged. No list is made.
+//! - Contexted patches that have no file and no absolute label in common do not conflict: their normal orders have none
+//! in common either, and merge unchanged.
 //! - Two contexted patches without a common label that are their own normal orders, or have headroom, are merged as they
 //! are, without ordering: with headroom, whether lists merge does not depend on their orders.
 //! So neither is ordered; and if the inverse of the first primitive of one does not commute with the first of the
 //! other, no list is made.
-//! - Two lists without a common label merge in their order if each is its own normal order: a split changes nothing. If
-//! their first primitives do not merge, the lists do not, and neither is copied.
+//! - Two lists without a common label are merged as they are if each is its own normal order: splitting off the common
+//! part would change nothing. If their first primitives do not merge, the lists do not, and neither is copied.
 mod behind;
 mod conflicts;
 mod elsewhere;

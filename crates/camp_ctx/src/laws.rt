@@ -39,7 +39,7 @@ pub fn reach_gives_room_to_add()
     ensures law { ReachGivesRoomToAdd }
 {}
 
-/// Adding a list does not depend on the order of its elements, given headroom.
+/// With headroom, the result of adding a list does not depend on the order of its elements.
 #[tactic(auto, using(crate::proofs::AddOrders::adds_in_any_order))]
 pub fn list_adds_in_any_order()
     ensures law { AddsInAnyOrder }

@@ -116,7 +116,7 @@ impl CtxSet {
         self.at(0)
     }
 
-    /// AddsToContext a list to every member: what is seen after the list becomes what is seen before it.
+    /// Adds a list to every member: turns what is seen after the list into what is seen before it.
     pub fn add(r: &Seq, set: &CtxSet) -> Result<CtxSet, AllocError>
         ensures exact { IfOk result (λ sum. EachMember (AddsAll r.now) set.now sum) }
     {
@@ -134,7 +134,7 @@ impl CtxSet {
         Ok(CtxSet { members })
     }
 
-    /// AddsToContext a primitive to every member.
+    /// Adds a primitive to every member.
     pub fn add_one(a: &Named, set: &CtxSet) -> Result<CtxSet, AllocError>
         ensures exact { IfOk result (λ sum. EachMember (AddsToContext a.now) set.now sum) }
     {

@@ -62,7 +62,7 @@ fn canonical_text(alloc: Global, call: &Call) -> Result<Vec<u8>, EntryFault>
     }
 }
 
-/// Parses the calls of an entry, each after its note.
+/// Parses the calls of an entry, each with the note before it.
 pub(crate) fn parse_calls(
     alloc: Global,
     body: &[u8],
@@ -75,7 +75,7 @@ pub(crate) fn parse_calls(
     }
 }
 
-// Returns the calls of a script of one section.
+// Returns the calls of a script; `None` unless it has one section.
 fn calls_of(alloc: Global, body: &[u8]) -> Result<Option<Vec<Call>>, AllocError>
     ensures { IfOk result (λ found. MatchOption found
         ((calls : List Call) → script_of body.now ≢ Ok (calls ∷ []))
@@ -88,7 +88,7 @@ fn calls_of(alloc: Global, body: &[u8]) -> Result<Option<Vec<Call>>, AllocError>
     }
 }
 
-// Returns the section, if there is just one.
+// Returns the section of a script that has only one.
 fn only_section(mut sections: Vec<Vec<Call>>) -> Option<Vec<Call>>
     ensures { MatchOption result
         ((calls : List Call) → map (λ section. section.items) sections.items ≢ calls ∷ [])
@@ -123,7 +123,7 @@ fn with_notes(
     Ok(Some(noted))
 }
 
-// Returns the bytes of a call.
+// Returns the length of a call's text in bytes.
 fn call_len(alloc: Global, call: &Call) -> Result<usize, AllocError>
     ensures { IfOk result (λ len. len ≡ length (call_text call.now)) }
 {

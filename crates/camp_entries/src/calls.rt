@@ -11,7 +11,7 @@ use camp_call::Call;
 use camp_member::NotedCall;
 use std::alloc::{AllocError, Global};
 
-/// Renders a call after its note, if a script can contain the call and the note is one.
+/// Renders a call after its note. Fails if no script can contain the call, or if the note is none.
 pub fn noted_text(alloc: Global, noted: &NotedCall<Call>) -> Result<Vec<u8>, EntryFault>
     ensures exact { IfOk result (λ text. text.items ≡ noted_text noted.now) }
     ensures noted { IfOk result (λ _. IsNoted noted.now) }
@@ -22,8 +22,8 @@ pub fn noted_text(alloc: Global, noted: &NotedCall<Call>) -> Result<Vec<u8>, Ent
     Ok(text)
 }
 
-/// Parses a text as exactly one call after its note, as `noted_text` renders it; `None` if it is the text of no
-/// such call that a script can contain.
+/// Parses a text as exactly one call after its note, as `noted_text` renders it; `None` if no call that a script can
+/// contain has this text.
 pub fn parse_noted_call(alloc: Global, text: &[u8]) -> Result<Option<NotedCall<Call>>, AllocError>
     ensures exact { IfOk result (IsNotedOf text.now) }
 {
@@ -41,7 +41,7 @@ pub fn parse_noted_call(alloc: Global, text: &[u8]) -> Result<Option<NotedCall<C
     Ok(Some(noted))
 }
 
-// Parses the parts of a call after its note.
+// Parses the note and the call of a text.
 fn only_call_of(alloc: Global, text: &[u8]) -> Result<Option<NotedCall<Call>>, AllocError>
     ensures { IfOk result (IsOnlyNotedOf text.now) }
 {
@@ -51,7 +51,7 @@ fn only_call_of(alloc: Global, text: &[u8]) -> Result<Option<NotedCall<Call>>, A
     }
 }
 
-// Returns the call, if there is just one.
+// Returns the call of a list that has only one.
 fn only_one(mut calls: Vec<NotedCall<Call>>) -> Option<NotedCall<Call>>
     ensures { MatchOption result
         ((noted : WithNote Call) → calls.items ≢ noted ∷ [])

@@ -10,10 +10,10 @@ use camp_call::Call;
 use camp_member::{Entry, NotedCall};
 use std::alloc::{AllocError, Global};
 
-/// The most bytes of the text of an entry: one mebibyte.
+/// The most bytes of the text of an entry: 1,048,576.
 pub const MAX_BYTES: usize = 1_048_576;
 
-/// Renders an entry, if a log can contain it.
+/// Renders an entry. Fails if no log can contain it.
 pub fn entry_text(alloc: Global, entry: &Entry<NotedCall<Call>>) -> Result<Vec<u8>, EntryFault>
     ensures exact { IfOk result (λ text. text.items ≡ text_of_entry entry.now) }
     ensures logged { IfOk result (λ _. CanBeLogged entry.now) }
@@ -31,8 +31,8 @@ pub fn entry_text(alloc: Global, entry: &Entry<NotedCall<Call>>) -> Result<Vec<u
     Ok(text)
 }
 
-/// Parses a text as exactly one entry, as `entry_text` renders it; `None` if it is the text of no entry that a
-/// log can contain.
+/// Parses a text as exactly one entry, as `entry_text` renders it; `None` if no entry that a log can contain has this
+/// text.
 pub fn parse_entry(alloc: Global, text: &[u8]) -> Result<Option<Entry<NotedCall<Call>>>, AllocError>
     ensures exact { IfOk result (IsEntryOf text.now) }
 {
@@ -50,7 +50,7 @@ pub fn parse_entry(alloc: Global, text: &[u8]) -> Result<Option<Entry<NotedCall<
     Ok(Some(entry))
 }
 
-// Parses the parts of an entry.
+// Parses the head and the calls of an entry.
 fn only_entry_of(alloc: Global, text: &[u8]) -> Result<Option<Entry<NotedCall<Call>>>, AllocError>
     ensures { IfOk result (IsOnlyEntryOf text.now) }
 {

@@ -10,8 +10,8 @@ use thiserror::Error;
 pub enum EntryFault {
     #[error("out of memory")]
     Memory,
-    /// A log can't contain it: it has a note that is no note, a call that no script can contain, no call or too
-    /// many, the number 0, or too long a text.
+    /// A log can't contain it: its note is none, a script can't contain its call, it has no calls or too many, its
+    /// number is 0, or its text is too long.
     #[error("no log can contain it")]
     Unfit,
 }

@@ -10,7 +10,7 @@ use itoa::Buffer;
 use std::alloc::AllocError;
 use std::str;
 
-/// The first line of an entry: its seat, its number, and the bytes of the line with its line feed.
+/// The first line of an entry: its seat, its number, and the length of the line with its line feed in bytes.
 #[derive(Drop)]
 pub(crate) struct Head {
     pub(crate) seat: u128,

@@ -1,4 +1,4 @@
-//! The texts of the entries of a log of repositories.
+//! The texts of entries of a log that repositories share.
 #![tactic(auto)]
 
 mod bodies;

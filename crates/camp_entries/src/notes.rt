@@ -10,7 +10,7 @@ pub(crate) fn is_note(bytes: &[u8]) -> bool
     note_len(bytes) == bytes.len()
 }
 
-/// Returns the bytes of the note that a text begins with.
+/// Returns the length in bytes of the note at the start of a text; 0 if there is none.
 pub(crate) fn note_len(text: &[u8]) -> usize
     ensures { IsNoteLength text.now result }
 {
@@ -28,7 +28,7 @@ pub(crate) fn note_len(text: &[u8]) -> usize
     at
 }
 
-/// Returns the bytes of the first line of a text with its line feed; `None` if it has none.
+/// Returns the length in bytes of the first line of a text, with its line feed; `None` if there is no line feed.
 pub(crate) fn line_len(text: &[u8]) -> Option<usize>
     ensures { IsLineLength text.now result }
 {

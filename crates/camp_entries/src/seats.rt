@@ -7,7 +7,7 @@ ghost use Rattle.camp_entries.specs.Texts.{seat_text};
 use std::alloc::{AllocError, Global};
 use std::str;
 
-/// The digits of a seat.
+/// The number of digits of a seat.
 pub(crate) const SEAT_DIGITS: usize = 32;
 
 /// Renders a seat.

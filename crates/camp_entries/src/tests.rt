@@ -1,4 +1,4 @@
-//! Entries as members append them, and texts that are none.
+//! Tests of entries as members append them, and of texts that are no entries.
 
 use crate::{EntryFault, entry_text, log_title_text, parse_entry, parse_log_title};
 use camp_member::{Entry, NotedCall};
@@ -7,11 +7,11 @@ use std::alloc::Global;
 use std::process::Abort;
 use std::test::Fail;
 
-/// An entry with two notes; the lines of an edit may look like a note.
+/// An entry with two notes; a line of an edit may look like a note.
 const ENTRY: &[u8] =
     b"entry 00ff00ff00ff00ff00ff00ff00ff00ff 12\n#note p\n#+why\n#+\nrecord main p group\nadd f\nedit f 1\n+#note\nend\ndone\nbranch b main\n#note q\n#+x\npull main b\n";
 
-/// An entry is rendered as the text that it was parsed of.
+/// An entry that was parsed from a text is rendered as that text.
 #[test]
 fn comes_back(rt: HostRuntime) -> Result<(), Fail> {
     let alloc = rt.alloc();
@@ -23,7 +23,7 @@ fn comes_back(rt: HostRuntime) -> Result<(), Fail> {
     Ok(())
 }
 
-/// No text but that of an entry is one: a byte more, another form of the head, a note without a call.
+/// Small changes make the text of an entry another text: a byte more, another form of the head, a note without a call.
 #[test]
 fn foreign(rt: HostRuntime) -> Result<(), Fail> {
     let alloc = rt.alloc();
@@ -56,7 +56,7 @@ fn has_entry(alloc: Global, calls: usize) -> Result<bool, Fail> {
     Ok(parse_entry(alloc, &text)?.is_some())
 }
 
-/// An entry has 256 calls at most.
+/// An entry has at most 256 calls.
 #[test]
 fn most_calls(rt: HostRuntime) -> Result<(), Fail> {
     let alloc = rt.alloc();
@@ -75,7 +75,7 @@ fn text_with_note(alloc: Global, note: &[u8]) -> Result<Result<Vec<u8>, EntryFau
     Ok(entry_text(alloc, &Entry::new(1, 1, calls)))
 }
 
-/// No entry is rendered that no member would read: its note is a call, or its text is too long.
+/// An entry that no member would read is not rendered: one whose note is a call, or whose text is too long.
 #[test]
 fn unfit(rt: HostRuntime) -> Result<(), Fail> {
     let alloc = rt.alloc();
@@ -99,7 +99,7 @@ fn unfit(rt: HostRuntime) -> Result<(), Fail> {
     Ok(())
 }
 
-/// A title is read as the limits that it names, or as those by default.
+/// The parsed title has the limits that it names, or the default ones.
 #[test]
 fn titles(rt: HostRuntime) -> Result<(), Fail> {
     let alloc = rt.alloc();
@@ -118,7 +118,7 @@ fn titles(rt: HostRuntime) -> Result<(), Fail> {
     Ok(())
 }
 
-/// No other text is a title: another version, a limit out of range, a zero before a number, a byte more.
+/// Small changes make a title another text: another version, a limit out of range, a leading zero, a byte more.
 #[test]
 fn no_titles(rt: HostRuntime) -> Result<(), Fail> {
     let alloc = rt.alloc();

@@ -10,7 +10,7 @@ use camp_repo::Limits;
 use itoa::Buffer;
 use std::alloc::{AllocError, Global};
 
-/// The title of a log that names no limits.
+/// The title of a log without limits.
 const PLAIN_TITLE: &[u8] = b"camp log 1\n";
 
 /// The bytes of a title before the first limit.
@@ -34,8 +34,8 @@ pub fn log_title_text(alloc: Global, limits: Limits) -> Result<Vec<u8>, AllocErr
     Ok(text)
 }
 
-/// Parses the title of a log: the limits that it names, or those by default if it names none. `None` if the text
-/// is no title.
+/// Parses the title of a log. Returns the limits that it names, or the default ones if it names none; `None` if the
+/// text is no title.
 pub fn parse_log_title(alloc: Global, text: &[u8]) -> Result<Option<Limits>, AllocError>
     ensures exact { IfOk result (AreLimitsOfLog text.now) }
 {
@@ -76,7 +76,7 @@ fn only_limits_of(text: &[u8]) -> Option<Limits>
     }
 }
 
-// Returns the place of the first space, or the end.
+// Returns the index of the first space, or the length.
 fn space_in(bytes: &[u8]) -> usize
     ensures place { result ≡ position_or_len (λ byte. byte == space) bytes.now }
     ensures within { result ≤ length bytes.now }

@@ -13,8 +13,8 @@ abbrev pub ExportOf : Contents → List ℕ → List ℕ → Type 0
 ExportOf state name text =
     (branch : List Catch) × (catches_of state.branches name ≡ Some branch) × IsExport name branch text
 
--- Ok: an export of the branch was appended. If there is no branch of the name, if git can't hold a tree of it, or if
--- memory ran out, nothing was written; if the writer failed, a prefix of an export was.
+-- Ok: an export of the branch was appended. If there is no branch of the name, if git can't store a tree of it, or if
+-- memory ran out, nothing was written. If the writer failed, a prefix of an export was written.
 abbrev pub Exports : Contents → List ℕ → Option (List ℕ) → Result (Unit {0}) Unexported → Option (List ℕ) → Type 0
 Exports state name old (Ok done) new = (text : List ℕ) × ExportOf state name text × Appends old new text
 Exports state name old (Err (NoBranch missing)) new =

@@ -12,7 +12,7 @@ use Rattle.camp_git.specs.Holding.{CanHold, CannotHold}
 abbrev pub content_of : Lines → List ℕ
 content_of lines = flat_map line lines
 
--- git has exactly the files of a tree
+-- the files that git stores are exactly those of a tree of camp
 abbrev pub HasFilesOf : GitTree → Files → Type 0
 HasFilesOf git files = (path : List ℕ) → git path ≡ option_map content_of (get files path)
 
@@ -20,14 +20,14 @@ HasFilesOf git files = (path : List ℕ) → git path ≡ option_map content_of 
 abbrev pub reference_of : List ℕ → List ℕ
 reference_of branch = codes "refs/heads/" ++ branch
 
--- a mark is above 0 and above that of the parent: so no two commits of one history have the same mark
+-- a mark is above 0 and above that of the parent; so no two commits of one history have the same mark
 abbrev pub IsNewMark : Option ℕ → ℕ → Type 0
 IsNewMark None mark = 0 < mark
 IsNewMark (Some parent) mark = parent < mark
 
--- a commit represents a patch up to which a branch has these catches: it is of this branch of git and has this
--- parent, with a greater mark; its message is the name of the patch and a line feed, and its tree is the one that the
--- catches lead to, which git can hold
+-- a commit represents a patch, up to which a branch has these catches: it is on this branch of git, has this parent and
+-- a greater mark; its message is the name of the patch and a line feed; and its tree is the one that the catches lead
+-- to, which git can store
 pub record RepresentsPatch (reference : List ℕ) (parent : Option ℕ) (upto : List Catch) (name : List ℕ) (commit : Kept) : Type 0 where
   pub on : commit.reference ≡ reference
   pub behind : commit.parent ≡ parent
@@ -47,7 +47,7 @@ RepresentEach reference branch count parent (patch ∷ patches) (commit ∷ comm
     RepresentsPatch reference parent (take (count + patch.changes) branch) patch.name commit
     × RepresentEach reference branch (count + patch.changes) (Some commit.mark) patches commits
 
--- a text is an export of a branch: it reads as commits that represent its patches, in order, one for each
+-- a text is an export of a branch: it reads as commits that represent its patches, one for each, in order
 pub record IsExport (name : List ℕ) (branch : List Catch) (text : List ℕ) : Type 0 where
   pub patches : List Patch
   pub has : HasPatches branch patches
@@ -55,28 +55,28 @@ pub record IsExport (name : List ℕ) (branch : List Catch) (text : List ℕ) : 
   pub reads : ReadsAsCommits text commits
   pub represents : RepresentEach (reference_of name) branch 0 None patches (keep_all [] commits)
 
--- the tree that catches lead to has a file at this path, and git can't hold it
+-- the tree that catches lead to has a file at this path that git can't store
 pub record IsBad (upto : List Catch) (path : List ℕ) : Type 0 where
   pub files : Files
   pub leads : LeadsTo upto files
   pub stands : contains_key files path ≡ true
   pub unheld : CannotHold files path
 
--- git can hold the tree that catches lead to
+-- git can store the tree that catches lead to
 pub record FitsGit (upto : List Catch) : Type 0 where
   pub files : Files
   pub leads : LeadsTo upto files
   pub held : CanHold files
 
--- of the patches after the first `count` catches of a branch, the one of this name is the first after which git can't
--- hold the tree of the branch, because of the file at this path
+-- of the patches after the first `count` catches of a branch, this is the first after which git can't store the tree of
+-- the branch, because of the file at this path
 abbrev pub IsFirstBad : List Catch → ℕ → List Patch → List ℕ → List ℕ → Type 0
 IsFirstBad branch count [] name path = ⊥
 IsFirstBad branch count (patch ∷ patches) name path =
     ((patch.name ≡ name) × IsBad (take (count + patch.changes) branch) path)
     ⊎ (FitsGit (take (count + patch.changes) branch) × IsFirstBad branch (count + patch.changes) patches name path)
 
--- the same of all patches of a branch
+-- the same for all patches of a branch
 pub record IsUnheld (branch : List Catch) (name path : List ℕ) : Type 0 where
   pub patches : List Patch
   pub has : HasPatches branch patches

@@ -6,7 +6,7 @@ use Rattle.std.specs.Fmt.{decimal}
 use Rattle.camp_base.specs.Bytes.{is_path_part, path_parts}
 use Rattle.camp_base.specs.Signs.{backslash, newline, quote, slash}
 
--- a change to the files of a commit: a file gets this content, a file or a folder is deleted, or everything is
+-- a change to the files of a commit: sets a file to this content, deletes a file or a folder, or deletes everything
 pub data FileChange : Type 0 where
   FileModify : (path content : List ℕ) → FileChange
   FileDelete : (path : List ℕ) → FileChange
@@ -24,11 +24,11 @@ pub record Commit : Type 0 where
 abbrev pub line : List ℕ → List ℕ
 line text = text ++ newline ∷ []
 
--- data by an exact count of its bytes
+-- the command of data, with their length in bytes
 abbrev pub data_text : List ℕ → List ℕ
 data_text bytes = line (codes "data " ++ decimal (length bytes)) ++ line bytes
 
--- a byte in quotes as in C: a backslash comes before a quote and before a backslash
+-- a byte in quotes, as in C: a quote and a backslash come after a backslash
 abbrev pub escaped_byte : ℕ → List ℕ
 escaped_byte byte = if byte == quote || byte == backslash then backslash ∷ byte ∷ [] else byte ∷ []
 
@@ -41,28 +41,28 @@ abbrev pub begins_with_quote : List ℕ → Bool
 begins_with_quote [] = false
 begins_with_quote (byte ∷ bytes) = byte == quote
 
--- a path: as it is or, if it begins with a quote, in quotes
+-- a path in a command: in quotes if it begins with a quote, else unchanged
 abbrev pub path_text : List ℕ → List ℕ
 path_text path = if begins_with_quote path then quote ∷ escaped path ++ quote ∷ [] else path
 
--- a change as a command; a file that gets its content is a plain one that is not executable, and its data follow
+-- the command of a change; a file that is set is a regular one, and its data follow
 abbrev pub change_command : FileChange → List ℕ
 change_command (FileModify path content) = line (codes "M 100644 inline " ++ path_text path) ++ data_text content
 change_command (FileDelete path) = line (codes "D " ++ path_text path)
 change_command FileDeleteAll = line (codes "deleteall")
 
--- the parent of a commit, by its mark
+-- the parent in the command of a commit, by its mark
 abbrev pub from_text : Option ℕ → List ℕ
 from_text None = []
 from_text (Some mark) = line (codes "from :" ++ decimal mark)
 
--- the command of a commit without its changes; the committer is camp, at the beginning of 1970
+-- the command of a commit without its changes; the committer is camp, at the start of 1970
 abbrev pub head_text : Commit → List ℕ
 head_text commit =
     line (codes "commit " ++ commit.reference) ++ line (codes "mark :" ++ decimal commit.mark)
     ++ line (codes "committer camp <camp> 0 +0000") ++ data_text commit.message ++ from_text commit.from
 
--- a commit as a command
+-- the command of a commit
 abbrev pub commit_text : Commit → List ℕ
 commit_text commit = head_text commit ++ flat_map change_command commit.changes
 
@@ -70,23 +70,23 @@ commit_text commit = head_text commit ++ flat_map change_command commit.changes
 abbrev pub IsOneLine : List ℕ → Type 0
 IsOneLine text = list_any (λ byte. byte == newline) text ≡ false
 
--- a path that a command can name: none of its parts between slashes is empty, `.` or `..`, and no byte is a line feed
+-- a path can be named in a command: none of its components is empty, `.` or `..`, and no byte is a line feed
 abbrev pub CanBeNamed : List ℕ → Type 0
 CanBeNamed path = (list_all is_path_part (path_parts path) ≡ true) × IsOneLine path
 
--- the path of a change can be named
+-- the path of a change can be named in a command
 abbrev pub HasGoodPath : FileChange → Type 0
 HasGoodPath (FileModify path content) = CanBeNamed path
 HasGoodPath (FileDelete path) = CanBeNamed path
 HasGoodPath FileDeleteAll = Unit {0}
 
--- a commit that can be written: no mark is 0
+-- a commit can be written: its paths can be named, and no mark is 0
 pub record IsGood (commit : Commit) : Type 0 where
   pub reference : IsOneLine commit.reference
   pub mark : 0 < commit.mark
   pub paths : AllByRecursion HasGoodPath commit.changes
 
--- what git stores of a tree: the content of each path that is a file
+-- the files of a tree as git stores them: for each path of a file its content
 abbrev pub GitTree : Type 0
 GitTree = List ℕ → Option (List ℕ)
 
@@ -98,8 +98,8 @@ no_files path = None
 abbrev pub is_inside : List ℕ → List ℕ → Bool
 is_inside folder path = starts_with nat_eq path (folder ++ slash ∷ [])
 
--- the tree after a change. A file replaces the folder of its path, and any file that is a folder of its path; what is
--- deleted goes with all that is in it
+-- the tree after a change. A file replaces the folder at its path, and each file that is a folder of its path; a
+-- deleted folder goes with all that is in it
 abbrev pub git_tree_after : GitTree → FileChange → GitTree
 git_tree_after tree (FileModify path content) other =
     if bytes_eq other path then Some content
@@ -112,7 +112,7 @@ abbrev pub changed_by : GitTree → List FileChange → GitTree
 changed_by tree [] = tree
 changed_by tree (change ∷ changes) = changed_by (git_tree_after tree change) changes
 
--- a commit as git stores it: its branch, its mark, its message, its parent by its mark, and its tree
+-- a commit as git stores it: its branch, its mark, its message, the mark of its parent, and its tree
 pub record Kept : Type 0 where
   pub reference : List ℕ
   pub mark : ℕ
@@ -120,7 +120,7 @@ pub record Kept : Type 0 where
   pub parent : Option ℕ
   pub tree : GitTree
 
--- the commit of a mark among those stored, the newest first
+-- the commit with this mark; of several stored ones, the newest
 abbrev pub commit_at_mark : List Kept → ℕ → Option Kept
 commit_at_mark [] mark = None
 commit_at_mark (kept ∷ older) mark = if kept.mark == mark then Some kept else commit_at_mark older mark
@@ -130,12 +130,12 @@ abbrev pub tip_of : List Kept → List ℕ → Option Kept
 tip_of [] reference = None
 tip_of (kept ∷ older) reference = if bytes_eq kept.reference reference then Some kept else tip_of older reference
 
--- the parent of a commit: the one of the given mark, or else the newest of its branch
+-- the parent of a commit: the one of the given mark, or else the newest commit of its branch
 abbrev pub parent_of : List Kept → Commit → Option ℕ → Option Kept
 parent_of kept commit None = tip_of kept commit.reference
 parent_of kept commit (Some mark) = commit_at_mark kept mark
 
--- the tree that a commit begins with, and the mark of its parent
+-- the tree of a commit before its changes, and the mark of its parent
 abbrev pub files_before : Option Kept → GitTree
 files_before None = no_files
 files_before (Some kept) = kept.tree
@@ -144,7 +144,7 @@ abbrev pub mark_of : Option Kept → Option ℕ
 mark_of None = None
 mark_of (Some kept) = Some kept.mark
 
--- a commit as git stores it, after those that it has stored
+-- a commit as git stores it, given the commits that are stored before it
 abbrev pub keep : List Kept → Commit → Kept
 keep kept commit =
     let parent = parent_of kept commit commit.from in
@@ -156,23 +156,24 @@ keep kept commit =
       tree = changed_by (files_before parent) commit.changes;
     }
 
--- what git stores of commits, one after the other
+-- commits as git stores them, one after the other
 abbrev pub keep_all : List Kept → List Commit → List Kept
 keep_all kept [] = []
 keep_all kept (commit ∷ commits) = keep kept commit ∷ keep_all (keep kept commit ∷ kept) commits
 
--- the mark of the given parent, if there is one, is that of an earlier commit
+-- if a commit names a parent, its mark is that of an earlier commit
 abbrev pub IsFromKnown : List Kept → Option ℕ → Type 0
 IsFromKnown kept None = Unit {0}
 IsFromKnown kept (Some mark) = is_some (commit_at_mark kept mark) ≡ true
 
--- the same of commits, one after the other
+-- the same for all commits, one after the other
 abbrev pub AreFromKnown : List Kept → List Commit → Type 0
 AreFromKnown kept [] = Unit {0}
 AreFromKnown kept (commit ∷ commits) =
     IsFromKnown kept commit.from × AreFromKnown (keep kept commit ∷ kept) commits
 
--- a text reads as these commits: it is their commands, in order, and each can be written and has an earlier parent
+-- a text reads as these commits: it is their commands, in order; each commit can be written, and its parent comes
+-- before it
 pub record ReadsAsCommits (text : List ℕ) (commits : List Commit) : Type 0 where
   pub is : text ≡ flat_map commit_text commits
   pub good : AllByRecursion IsGood commits

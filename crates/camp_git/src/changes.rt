@@ -11,8 +11,8 @@ use camp_base::{Line, Path, Tree};
 use camp_share::{SharedList, SharedMap};
 use std::alloc::AllocError;
 
-/// Appends the changes from one tree to another that differs only at these paths. Deletions come first, since
-/// a new file may have the path of a folder that they are in.
+/// Appends the changes from one tree to another that differs only at these paths. Deletions come first, since a new
+/// file may have the path of a folder that deleted files were in.
 pub(crate) fn append_changes(
     text: &mut Vec<u8>,
     paths: &SharedMap<Path, ()>,
@@ -54,7 +54,7 @@ fn append_deletion(
     }
 }
 
-/// True if the file of a path is deleted.
+/// True if a change deletes the file at a path.
 fn goes(path: &Path, old: &Tree, new: &Tree) -> bool
     ensures { result ≡ (contains_key old.now path.now && not (contains_key new.now path.now)) }
 {

@@ -10,8 +10,8 @@ use camp_base::{Name, Path, Tree};
 use camp_share::SharedMap;
 use std::alloc::AllocError;
 
-/// The place of a commit: its branch, the name of its patch, its mark, which is the number of catches of the
-/// branch up to and with the patch, and the mark of its parent, or 0.
+/// The position of a commit in the history: its branch, the name of its patch, its mark, which is the number of catches
+/// of the branch up to and including the patch, and the mark of its parent, or 0.
 #[derive(Drop)]
 pub(crate) struct Place {
     pub(crate) branch: Name,
@@ -35,7 +35,7 @@ pub(crate) fn append_commit(
     append_changes(text, paths, old, new)
 }
 
-// Appends a commit up to its changes.
+// Appends the command of a commit up to its changes.
 fn append_head(text: &mut Vec<u8>, place: &Place) -> Result<(), AllocError>
     ensures text { OnOk result (text.new.items ≡ text.old.items ++ head_text (commit_at place.now [])) }
     ensures named { IfOk result (λ _. IsOneLine (reference_of place.now.branch)) }

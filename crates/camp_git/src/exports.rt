@@ -9,10 +9,10 @@ use camp_script::write_text;
 use std::alloc::Global;
 use std::io::Write;
 
-/// Writes a branch as a stream for `git fast-import`: on `refs/heads/BRANCH` a commit for each patch, in the
-/// order of the branch. Its message is the name of the patch and a line feed, and its tree is the tree of the
-/// branch up to and with the patch. The stream is made in memory before its first byte is written, so nothing
-/// is written if git can't hold one of the trees.
+/// Writes a branch as a stream for `git fast-import`: on `refs/heads/BRANCH` a commit for each patch, in the order of
+/// the branch. The message of a commit is the name of its patch and a line feed; its tree is the tree of the branch up
+/// to and including the patch. The stream is made in memory before its first byte is written, so nothing is written if
+/// git can't store one of the trees.
 pub fn export<W: Write>(
     alloc: Global,
     state: &State,

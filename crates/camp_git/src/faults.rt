@@ -7,15 +7,14 @@ use std::alloc::AllocError;
 use std::io;
 use thiserror::Error;
 
-/// Why a branch was not exported. Its display form is what a program reports; if there is no branch, that is
-/// the answer of a call.
+/// Why a branch was not exported. A program reports its display form; that of `NoBranch` is the answer of a call.
 #[derive(Debug, Drop, Error)]
 pub enum Unexported {
     /// There is no branch of this name.
     #[error("refused 4 {0}")]
     NoBranch(Name),
-    /// Git can't hold the tree of the branch up to and with a patch: the path of this file has a part `.git`,
-    /// or is a folder of another file too.
+    /// Git can't store the tree of the branch up to and including a patch: the path of this file has a component
+    /// `.git`, or is a folder of another file too.
     #[error("{patch}: git can't hold {path}")]
     Unheld { patch: Name, path: Path },
     #[error("out of memory")]

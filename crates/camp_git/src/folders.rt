@@ -1,4 +1,4 @@
-//! Files that git can't hold: a component of the path is `.git`, or the path is also a folder of another file.
+//! Files that git can't store: a component of the path is `.git`, or the path is also a folder of another file.
 ghost use Rattle.std.specs.Prelude.{◌≡◌, ◌↔◌, ◌<◌, ℕ, List, IsTrue, true, false, IfOk, MatchOption, Some, length, slice_get};
 ghost use Rattle.std.specs.Ordering.{nat_cmp};
 ghost use Rattle.std.specs.Cmp.Lexicographic.{slice_cmp};
@@ -14,8 +14,8 @@ use camp_base::{Path, Tree};
 use camp_share::SharedMap;
 use std::alloc::{AllocError, Global};
 
-/// Returns a file of the new tree that git can't hold, or `None`. The new tree was made from the old one by changes at
-/// these paths, and git can hold the old one, so only these paths are checked.
+/// Returns a file of the new tree that git can't store, or `None`. The new tree was made from the old one by changes at
+/// these paths, and git can store the old one, so only these paths are checked.
 pub(crate) fn first_unheld(
     alloc: Global,
     paths: &SharedMap<Path, ()>,
@@ -37,7 +37,7 @@ pub(crate) fn first_unheld(
     Ok(None)
 }
 
-/// The same for one path that may be new.
+/// Returns the same for one path, whose file may be new.
 fn unheld_if_new(
     alloc: Global,
     path: &Path,
@@ -54,7 +54,7 @@ fn unheld_if_new(
     unheld_at(alloc, path, new)
 }
 
-/// Returns the file of a path if git can't hold it, or another that it can't hold because of this one.
+/// Returns the file at a path if git can't store it, or another one that it can't store because of this one.
 fn unheld_at(alloc: Global, path: &Path, tree: &Tree) -> Result<Option<Path>, AllocError>
     requires { map.contains_key tree.now path.now ≡ true }
     ensures { IfOk result (λ found. MatchOption found
@@ -67,7 +67,7 @@ fn unheld_at(alloc: Global, path: &Path, tree: &Tree) -> Result<Option<Path>, Al
     file_around(path, tree)
 }
 
-/// True if a path has a part `.git`, in capitals or not.
+/// True if a component of a path is `.git`, in capital or small letters.
 fn has_git_part(path: &Path) -> bool
     ensures { result ≡ has_git_part path.now }
 {
@@ -91,7 +91,7 @@ fn has_file_inside(alloc: Global, path: &Path, tree: &Tree) -> Result<bool, Allo
     Ok(begins_some(tree, &folder))
 }
 
-/// True if the path of some file begins with these bytes.
+/// True if the path of some file of the tree begins with these bytes.
 fn begins_some(tree: &Tree, bytes: &[u8]) -> bool
     ensures { IsTrue result ↔ IsStartOfPath tree.now bytes.now }
 {
@@ -116,7 +116,7 @@ fn file_around(path: &Path, tree: &Tree) -> Result<Option<Path>, AllocError>
     Ok(None)
 }
 
-/// Returns the file that is the folder of a path up to an index.
+/// Returns the file, if there is one, whose path is the first `at` bytes of a path that continues with `/`.
 fn folder_to<'a>(path: &[u8], at: usize, tree: &'a Tree) -> Option<&'a Path>
     requires { at < length path.now }
     ensures { MatchOption result
@@ -130,7 +130,7 @@ fn folder_to<'a>(path: &[u8], at: usize, tree: &'a Tree) -> Option<&'a Path>
     }
 }
 
-/// Returns the path of the file that these bytes spell.
+/// Returns the path of the file at these bytes, if there is one.
 fn file_of<'a>(tree: &'a Tree, bytes: &[u8]) -> Option<&'a Path>
     ensures { MatchOption result
         (map.contains_key tree.now bytes.now ≡ false)

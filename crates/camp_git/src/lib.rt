@@ -1,4 +1,4 @@
-//! A branch for git: a stream that `git fast-import` reads, with a commit for each patch.
+//! Exporting a branch to git: a stream that `git fast-import` reads, with a commit for each patch.
 #![tactic(auto)]
 
 mod changes;

@@ -12,15 +12,15 @@ use camp_prim::Named;
 use camp_share::{Shared, SharedList, SharedMap};
 use std::alloc::{AllocError, Global};
 
-/// The tree after a patch, and paths outside which it is the tree before the patch.
+/// The tree after a patch, and the paths at which it may differ from the tree before the patch.
 #[derive(Drop)]
 pub(crate) struct Step {
     pub(crate) tree: Tree,
     pub(crate) paths: SharedMap<Path, ()>,
 }
 
-/// Returns the index at which the next patch begins: `from` plus the number of catches from there on that still belong to
-/// the patch before `from`.
+/// Returns the index at which the next patch begins: `from` plus the number of catches from there on that belong to the
+/// patch before `from`.
 pub(crate) fn patch_end(catches: &SharedList<Shared<Catch>>, from: usize) -> usize
     requires { from ≤ length catches.now }
     ensures exact { result ≡ from + led_by (keys_of (drop from catches.now)) }
@@ -37,7 +37,7 @@ pub(crate) fn patch_end(catches: &SharedList<Shared<Catch>>, from: usize) -> usi
     last
 }
 
-/// Makes the step from a tree over the catches of a patch.
+/// Makes the step from a tree to the one after the catches of a patch.
 pub(crate) fn step_over(
     alloc: Global,
     tree: &Tree,
@@ -55,7 +55,7 @@ pub(crate) fn step_over(
     Ok(Step { tree: after, paths })
 }
 
-/// Applies the changes of an effect, which do apply, and adds their paths to others.
+/// Applies the changes of an effect, which are known to apply, and adds their paths to a list.
 fn run(effect: &[Named], tree: &mut Tree, paths: &mut SharedMap<Path, ()>) -> Result<(), AllocError>
     requires runs { (after : Files) × AppliesAll effect.now tree.old after }
     ensures runs { IfOk result (λ _. AppliesAll effect.now tree.old tree.new) }

@@ -12,7 +12,7 @@ use camp_base::{Name, Tree};
 use camp_branch::Branch;
 use std::alloc::Global;
 
-/// Makes the stream of a branch, or returns the first patch up to which git can't hold its tree.
+/// Makes the stream of a branch, or returns the first patch after which git can't store its tree.
 pub(crate) fn stream_of(alloc: Global, name: &Name, branch: &Branch) -> Result<Vec<u8>, Unexported>
     ensures { Streams name.now branch.now result }
 {
@@ -37,7 +37,7 @@ pub(crate) fn stream_of(alloc: Global, name: &Name, branch: &Branch) -> Result<V
     Ok(text)
 }
 
-/// Appends the commit of a patch, if git can hold the tree after it.
+/// Appends the commit of a patch, if git can store the tree after it.
 fn append_step(
     alloc: Global,
     text: &mut Vec<u8>,
@@ -55,7 +55,7 @@ fn append_step(
     Ok(())
 }
 
-/// Fails if git can't hold the tree after a patch.
+/// Returns a fault if git can't store the tree after a patch.
 fn check_held(alloc: Global, name: &Name, old: &Tree, step: &Step) -> Result<(), Unexported>
     requires held { CanHold old.now }
     requires stays { StaysBeside step.now.paths old.now step.now.tree }

@@ -51,7 +51,7 @@ pub(crate) fn append_content(text: &mut Vec<u8>, lines: &SharedList<Line>) -> Re
     append_parts(text, &[content.as_slice(), b"\n"])
 }
 
-/// Appends a path: as it is or, if it begins with a quote, in quotes.
+/// Appends a path: in quotes if it begins with a quote, else unchanged.
 pub(crate) fn append_path(text: &mut Vec<u8>, path: &Path) -> Result<(), AllocError>
     ensures text { OnOk result (text.new.items ≡ text.old.items ++ path_text path.now) }
     ensures named { IfOk result (λ _. CanBeNamed path.now) }

@@ -10,11 +10,11 @@ use Rattle.camp_history.specs.declared.faults.HeadFault.TheVariants.{BadSize, Me
 abbrev pub most_calls : ℕ
 most_calls = most_cells
 
--- the most tries of a call
+-- the most lost compare-exchanges of a call
 abbrev pub most_tries : ℕ
 most_tries = 1_000
 
--- the most positions from one snapshot to the next
+-- the greatest distance between the positions of snapshots
 abbrev pub most_between_snapshots : ℕ
 most_between_snapshots = 4_096
 
@@ -25,12 +25,12 @@ pub record AreHeadSizes (seats per_seat tries every : ℕ) : Type 0 where
   pub some_tries : (1 ≤ tries) × (tries ≤ most_tries)
   pub snapshots : every ≤ most_between_snapshots
 
--- the seat with this number before it has seen anything
+-- the seat with this number, which has seen nothing
 abbrev pub seat_at : {State Call : Type 0} → HeadId State → ℕ → SeatState State Call
 seat_at head number = unseen head.first (new_pass head.row number)
 
--- a head of these numbers whose history begins with this state, with its seats, numbered from 0, none of which has seen
--- anything
+-- a new head with these parameters, whose history begins with this state, and its seats, numbered from 0, which have
+-- seen nothing
 pub record IsOpened {State Call : Type 0} (first : State) (seats per_seat tries : ℕ) (head : HeadId State) (made : List (SeatState State Call))
     : Type 0 where
   pub begins_with : head.first ≡ first
@@ -40,7 +40,7 @@ pub record IsOpened {State Call : Type 0} (first : State) (seats per_seat tries 
   pub all : made ≡ map (seat_at head) (range_with_len 0 seats)
   pub are_seats : All (IsSeatOf head) made
 
--- making a head fails with `BadSize` exactly if one of the numbers is out of its range; else it succeeds, or memory
+-- making a head fails with `BadSize` exactly if one of the parameters is out of its range; else it succeeds, or memory
 -- runs out
 abbrev pub Opens : {Made State Call : Type 0} → State → (Made → HeadId State) → (Made → List (SeatState State Call)) →
     (seats per_seat tries every : ℕ)

@@ -43,7 +43,7 @@ impl<State: Object> Head<State> {
         ensures asks { Ask (begun State.object self.now.first) (caller_at self.now seat.old) (history_of seat.old) kept.call result (history_of seat.new) }
         ensures one_seat { seats_of self.now ≡ 1 → IsNotBusy result }
     {
-        // Reading a field shows the prover the invariant of the head.
+        // Reads a field, so that the prover sees the invariant of the head.
         let _tries = self.tries;
         let answer = match kept.storage {
             Storage::Here(call) => self.ask_question(seat, &call),
@@ -95,7 +95,7 @@ impl<State: Object> Head<State> {
         Err(Fault::Busy { lost: self.tries })
     }
 
-    /// Decides the call at what the seat has seen, and publishes it if it is accepted.
+    /// Decides the call, after the calls that the seat has seen, and publishes it if it is accepted.
     fn attempt<G: Gate>(
         &self,
         seat: &mut Seat<State>,
@@ -122,7 +122,7 @@ impl<State: Object> Head<State> {
         Ok(Some(State::done(seat.position())))
     }
 
-    /// Decides a call at what the seat has seen. It is accepted only if the seat has a cell left.
+    /// Decides a call, after the calls that the seat has seen. It is accepted only if the seat has a cell left.
     fn decision(
         &self,
         seat: &Seat<State>,

@@ -25,12 +25,12 @@ use std::sync::Wait;
 pub struct Head<State: Object> {
     pub(crate) row: Row,
     pub(crate) calls: boxcar::Vec<State::Call>,
-    /// The state that the history begins with.
+    /// The initial state of the history.
     pub(crate) first: Shared<State>,
     pub(crate) tries: u32,
     pub(crate) every: u32,
-    /// The slots for snapshots: one for each position at which a snapshot is kept, and then one for each
-    /// seat, by its number, for the snapshot that it publishes.
+    /// The slots for snapshots: one for each position at which a snapshot is kept, and then one for each seat, to which
+    /// the seat publishes a snapshot.
     pub(crate) snapshots: Vec<Slot<State>>,
     /// The parents of these snapshots.
     pub(crate) parents: Vec<ParentSlot<State>>,
@@ -74,8 +74,7 @@ fn seat_slot_count(seats: u32, every: u32) -> usize
     if every == 0 { 0 } else { seats as usize }
 }
 
-/// Makes the seats of a new head, one for each pass. Their history begins with this state, and they have seen
-/// nothing.
+/// Makes the seats of a new head, one for each pass. They have seen nothing; their histories begin with this state.
 fn seats_of<State: Object>(
     alloc: Global,
     first: &Shared<State>,
@@ -132,10 +131,10 @@ impl<State: Object> Head<State> {
         Head::begun(alloc, State::initial(alloc)?, seats, per_seat, tries, every)
     }
 
-    /// Makes a head whose history begins with a state, and its seats, numbered from 0. `seats` is 1 to 64; `per_seat`, the accepted calls of
-    /// each seat, 1 to 65,536; `tries`, the lost compare-exchanges after which a call that writes gives up, 1
-    /// to 1,000; `every` 0 to 4,096: a snapshot is kept at each position that is a multiple of it, and none
-    /// for 0. Snapshots change no reply; which ones exist is only tested.
+    /// Makes a head whose history begins with a state, and its seats, numbered from 0. `seats` is 1 to 64; `per_seat`,
+    /// the most accepted calls of each seat, 1 to 65,536; `tries`, the lost compare-exchanges after which a call that
+    /// writes gives up, 1 to 1,000; `every` is 0 to 4,096: a snapshot is kept at each position that is a multiple of
+    /// it, and none for 0. Snapshots change no reply; which ones exist is only tested.
     pub fn begun(
         alloc: Global,
         first: State,
@@ -186,7 +185,7 @@ impl<State: Object> Head<State> {
         })
     }
 
-    /// Stores a copy of a call, which can then be asked at any seat. The only fault is out of memory.
+    /// Stores a copy of a call, which can then be executed at any seat. The only error is out of memory.
     pub fn keep(&self, rt: &impl Wait, call: &State::Call) -> Result<Kept<State>, Fault>
         ensures kept { IfOk result (λ kept. IsStoredIn self.now kept) }
         ensures call { IfOk result (λ kept. kept.call ≡ call.now) }
@@ -206,8 +205,7 @@ impl<State: Object> Head<State> {
         }
     }
 
-    /// Returns the calls that a seat has seen, each with the number of its seat. The only fault is out of
-    /// memory.
+    /// Returns the calls that a seat has seen, each with the number of its seat. The only error is out of memory.
     pub fn history(&self, seat: &Seat<State>) -> Result<Vec<(u32, State::Call)>, Fault>
         requires { IsSeatOf self.now seat.now }
         ensures history { IfOk result (λ history. history.items ≡ history_of seat.now) }

@@ -1,4 +1,4 @@
-//! Installing a snapshot at a seat that has seen less.
+//! Installing a snapshot at a seat that has seen fewer calls.
 ghost use Rattle.std.specs.Prelude.{◌≡◌, ℕ, ◌<◌, ◌≤◌, ◌+◌, length, drop, slice_get, slice_index_or, All, Some, IfSome, IsTrue, MatchBool};
 ghost use Rattle.boxcar.specs.Table.{Shows};
 ghost use Rattle.camp_history.specs.Snapshots.{ids, Installs, IsMarkPrefix, ContinuesSeat, HaveCommon};
@@ -14,10 +14,10 @@ use camp_row::{Entry, Row, Trail};
 use camp_share::Share as _;
 use std::alloc::AllocError;
 
-/// Snapshots that a seat notes.
+/// The most snapshots that a seat notes.
 const MOST_NOTED: usize = 16;
 
-/// Drops the oldest snapshot that a seat noted, if it has noted the most that it may.
+/// Drops the oldest snapshot that a seat noted if it has noted the most that it may.
 fn make_room<State: Object>(bases: &mut Vec<Base<State>>)
     ensures { (gone : ℕ) × (bases.new.items ≡ drop gone bases.old.items) }
 {
@@ -46,7 +46,7 @@ impl<State: Object> HeadSnapshot<State> {
 impl<State: Object> Seat<State> {
     ghost use Rattle.camp_row.specs.PassState.{IsTrail};
 
-    /// Iterates over the marks of what it has seen, from an index on.
+    /// Iterates over the marks of all calls that the seat has seen, from an index on.
     pub(crate) fn marks_from(&self, from: usize) -> MarksLeft<'_, State::Call>
         requires { from ≤ length self.now.marks }
         ensures { result ≡ drop from self.now.marks }
@@ -65,7 +65,7 @@ impl<State: Object> Seat<State> {
         row.entry_at(&mut self.pass, trail, index)
     }
 
-    /// Installs a snapshot; false if its history began with another state than the seat's, which does not occur with
+    /// Installs a snapshot. False if its history began with another state than the seat's, which does not occur with
     /// snapshots of the seat's head.
     fn install(&mut self, row: &Row, trail: &mut Trail, snapshot: HeadSnapshot<State>) -> bool
         requires row { self.old.known.row ≡ row.now }
@@ -165,8 +165,8 @@ impl<State: Object> Head<State> {
         false
     }
 
-    /// Returns the number of calls of a snapshot that a seat noted: the seat's calls begin with them. `None`
-    /// if it did not note it.
+    /// Returns the number of calls of a snapshot that a seat noted, which are the first ones of the seat. `None` if it
+    /// did not note it.
     pub(crate) fn noted_len(&self, seat: &Seat<State>, base: &Base<State>) -> Option<usize>
         requires seat { IsSeatOf self.now seat.now }
         requires base { IsBaseAt self.now.slots (based base.now) }
@@ -194,8 +194,8 @@ impl<State: Object> Head<State> {
         Some(parent_link)
     }
 
-    /// Returns a number of first calls that a seat and a snapshot have in common, without comparing calls: the length of
-    /// the nearest parent of the snapshot that the seat noted.
+    /// Returns a number of first calls that a seat and a snapshot have in common, without comparing calls: the length
+    /// of the snapshot's nearest ancestor that the seat noted.
     fn common_len(&self, seat: &Seat<State>, link: &ParentLink<State>) -> usize
         requires seat { IsSeatOf self.now seat.now }
         requires link { IsMadeFrom self.now.slots link.now }
@@ -214,8 +214,7 @@ impl<State: Object> Head<State> {
         0
     }
 
-    /// True if a snapshot begins with the calls that a seat has seen. The first `from` are known to be the
-    /// same.
+    /// True if a snapshot begins with the calls that a seat has seen; `from` first calls are known to be the same.
     fn begins_with_seen(
         &self,
         seat: &Seat<State>,
@@ -240,7 +239,7 @@ impl<State: Object> Head<State> {
         true
     }
 
-    /// True if the calls of a snapshot that a seat has not seen come next along the trail.
+    /// True if those calls of a snapshot that a seat has not seen come next on the trail.
     fn follows_trail(
         &self,
         seat: &mut Seat<State>,
@@ -268,8 +267,8 @@ impl<State: Object> Head<State> {
         true
     }
 
-    /// True if a snapshot begins with what a seat has seen and continues along the trail. The first `from`
-    /// calls are known to be the same.
+    /// True if a snapshot begins with what a seat has seen and continues along the trail; `from` first calls are known
+    /// to be the same.
     fn continues_seat(
         &self,
         seat: &mut Seat<State>,
@@ -287,7 +286,7 @@ impl<State: Object> Head<State> {
         self.begins_with_seen(seat, snapshot, from) && self.follows_trail(seat, trail, snapshot)
     }
 
-    /// Notes a snapshot with which a seat's calls begin. Only the last few notes are kept.
+    /// Notes a snapshot with which a seat's calls begin. Only the most recent notes are kept.
     pub(crate) fn note(&self, seat: &mut Seat<State>, base: Base<State>)
         requires seat { IsSeatOf self.now seat.old }
         requires base { IsBaseAt self.now.slots (based base) }
@@ -300,7 +299,7 @@ impl<State: Object> Head<State> {
         let _noted = seat.bases.push(base);
     }
 
-    /// Returns the snapshot of a slot and its length, if it has more than `seen` calls and at most `reach`.
+    /// Returns the snapshot of a slot and its length, if it has more than `seen` and at most `reach` calls.
     fn found_at(&self, number: usize, seen: u64, reach: u64) -> Option<(&ParentLink<State>, u64)>
         ensures { IfSome result (λ found. IsWithinReach self.now.slots seen reach found.0.now found.1) }
     {
@@ -313,8 +312,7 @@ impl<State: Object> Head<State> {
         }
     }
 
-    /// Returns the longest published snapshot with more than `seen` calls and at most `reach`, and its
-    /// length.
+    /// Returns the longest published snapshot with more than `seen` and at most `reach` calls, and its length.
     fn longest_published(&self, seen: u64, reach: u64) -> Option<(&ParentLink<State>, u64)>
         ensures { IfSome result (λ found. IsWithinReach self.now.slots seen reach found.0.now found.1) }
     {
@@ -329,8 +327,8 @@ impl<State: Object> Head<State> {
         longest
     }
 
-    /// Returns the longest snapshot that is kept for a position, of those with more than `seen` calls and at
-    /// most `reach`, and its length.
+    /// Returns the longest snapshot kept for a position that has more than `seen` and at most `reach` calls, and its
+    /// length.
     fn longest_at_positions(&self, seen: u64, reach: u64) -> Option<(&ParentLink<State>, u64)>
         ensures { IfSome result (λ found. IsWithinReach self.now.slots seen reach found.0.now found.1) }
     {
@@ -349,8 +347,8 @@ impl<State: Object> Head<State> {
         None
     }
 
-    /// Returns the longest snapshot, published or kept for a position, with more than `seen` calls and at
-    /// most `reach`, and its length.
+    /// Returns the longest snapshot, published or kept for a position, with more than `seen` and at most `reach` calls,
+    /// and its length.
     fn longest(&self, seen: u64, reach: u64) -> Option<(&ParentLink<State>, u64)>
         ensures { IfSome result (λ found. IsWithinReach self.now.slots seen reach found.0.now found.1) }
     {
@@ -413,7 +411,7 @@ impl<State: Object> Head<State> {
         Ok(true)
     }
 
-    /// Tries the snapshots that a seat finds, the longest first, until one is installed.
+    /// Installs the longest snapshot that continues what a seat has seen, if there is one.
     pub(crate) fn install_longest(
         &self,
         seat: &mut Seat<State>,

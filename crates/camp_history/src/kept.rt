@@ -3,7 +3,7 @@ use boxcar::Pushed;
 use camp_object::Object;
 use std::marker::Model;
 
-/// Where a stored call is.
+/// Where a call is stored: here, or in the head's store.
 #[derive(Drop)]
 pub enum Storage<Call> {
     Here(Call),

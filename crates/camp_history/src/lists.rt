@@ -1,4 +1,4 @@
-//! Marks in order: a reference counted list, followed by a few marks of one owner.
+//! Marks in order: a reference counted list, and after it a few marks that one seat owns.
 ghost use Rattle.std.specs.Prelude.{◌≡◌, ◌∷◌, ◌++◌, ◌+◌, ◌≤◌, [], length, drop, IfOk, MatchOption};
 
 use crate::marks::Mark;
@@ -23,7 +23,7 @@ impl<'a, Call> Model for MarksLeft<'a, Call> {
 }
 
 impl<'a, Call> MarksLeft<'a, Call> {
-    /// Iterates over the marks of a list and the ones after it, from an index on.
+    /// Iterates over the marks of a list and those after it, from an index on.
     pub(crate) fn new(
         earlier: &'a SharedList<Mark<Call>>,
         tail: &'a [Mark<Call>],

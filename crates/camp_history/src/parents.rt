@@ -1,4 +1,4 @@
-//! The rules of slots: what holds of a snapshot and its parent, on whatever thread they are read.
+//! The rules of slots: what holds of a snapshot and its parent, whichever thread reads them.
 ghost use Rattle.std.specs.Prelude.{All};
 ghost use Rattle.camp_history.specs.Snapshots.{ids_of, IsIn, IsMadeFrom};
 
@@ -11,19 +11,19 @@ impl<State: Object> SlotRule<HeadSnapshot<State>> for OfStore {
     ghost holds = { λ tag snapshot. All (λ mark. IsIn tag mark.call) snapshot };
 }
 
-/// The rule of slots of parents: a parent is a snapshot in a slot of the same head.
+/// The rule of the slots of parents: a parent is a snapshot in a slot of the same head.
 pub struct OfSlots;
 
 impl<State: Object> SlotRule<ParentLink<State>> for OfSlots {
     ghost holds = { λ tag link. IsMadeFrom tag link };
 }
 
-/// Slots are identified by their indices.
+/// Slots are identified by their indexes.
 pub struct SlotIds;
 
 impl<State: Object> Names<Vec<Slot<State>>> for SlotIds {
     ghost numbers = { λ slots. ids_of slots.items };
 }
 
-/// A slot to which the parent of a snapshot is written once.
+/// A slot to which the parent of a snapshot is written at most once.
 pub type ParentSlot<State> = OnceSlot<ParentLink<State>, OfSlots>;

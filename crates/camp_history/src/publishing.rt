@@ -15,12 +15,12 @@ use camp_object::{Fault, Object};
 use camp_share::{Share, Shared, SharedList};
 use std::alloc::AllocError;
 
-/// The number of marks outside its reference counted list at which a seat moves them into the list before a call
-/// at whose position it makes a snapshot: a snapshot copies the marks outside the list.
+/// The number of marks outside the reference counted list at which a seat moves them into the list before a call at
+/// whose position it makes a snapshot. A snapshot copies the marks outside the list, so this number is small.
 const COMPACT_AT_SNAPSHOT: usize = 40;
-/// The number of marks outside its reference counted list at which a seat moves them into the list before any other
-/// call. It is the most that a snapshot and 64 calls after it have, so a seat that installs a snapshot every 64 calls
-/// moves none: moving takes longer the more calls there are.
+/// The number of marks outside the reference counted list at which a seat moves them into the list before any other
+/// call. Moving takes longer the more calls there are. The number is the most that a snapshot and 64 calls after it
+/// have, so that a seat that installs a snapshot every 64 calls never moves any.
 const COMPACT_BETWEEN: usize = 104;
 
 impl<State: Object> HeadSnapshot<State> {
@@ -62,7 +62,7 @@ impl<State: Object> Seat<State> {
         HeadSnapshot::made_from(&self.earlier, tail, &self.state)
     }
 
-    /// Makes the snapshot for the position of a call that is about to be accepted.
+    /// Makes a snapshot for the position of a call that is about to be accepted.
     fn snapshot_with(
         &self,
         call: &Pushed<State::Call>,
@@ -80,7 +80,7 @@ impl<State: Object> Seat<State> {
     }
 }
 
-/// Returns the index of the slot of a position, if snapshots are kept at it.
+/// Returns the index of the slot of a position, if snapshots are kept there.
 fn slot_of(position: u64, every: u32) -> Option<usize>
     ensures { MatchOption result ((number : ℕ) → ¬ (IsSlotFor position every number)) (IsSlotFor position every) }
 {
@@ -117,7 +117,8 @@ impl<State: Object> Head<State> {
         Some(seat.bases.last()?.again())
     }
 
-    /// Writes a snapshot of all that a seat has seen to a slot, with its parent, unless the slot has one.
+    /// Writes a snapshot of all that a seat has seen to a slot, and its parent to another, unless the slot has a
+    /// snapshot already.
     fn store_at(
         &self,
         number: usize,
@@ -154,8 +155,8 @@ impl<State: Object> Head<State> {
         }
     }
 
-    /// Publishes a snapshot of what a seat has seen and decided, so that seats that have seen less need not
-    /// decide it again. Publishes at most once for each seat, and not if no snapshots are kept. The only fault is out of
+    /// Publishes a snapshot of what a seat has seen and decided, so that seats that have seen less need not decide it
+    /// again. Does nothing if the seat has published one already, or if no snapshots are kept. The only error is out of
     /// memory; then nothing changes.
     pub fn publish_snapshot(&self, seat: &Seat<State>) -> Result<(), Fault>
         requires { IsSeatOf self.now seat.now }
@@ -170,7 +171,7 @@ impl<State: Object> Head<State> {
         Ok(())
     }
 
-    /// Returns the number of marks outside its reference counted list at which a seat moves them into the list before
+    /// Returns the number of marks outside the reference counted list at which a seat moves them into the list before
     /// its next call.
     pub(crate) fn compact_limit(&self, seat: &Seat<State>) -> usize {
         if slot_of(seat.position().saturating_add(1), self.every).is_none() {
@@ -179,7 +180,7 @@ impl<State: Object> Head<State> {
         COMPACT_AT_SNAPSHOT
     }
 
-    /// Makes the snapshot for a call's position, if snapshots are kept at it.
+    /// Makes the snapshot for a call's position, if snapshots are kept there.
     pub(crate) fn snapshot_for(
         &self,
         seat: &Seat<State>,

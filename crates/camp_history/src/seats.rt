@@ -12,7 +12,7 @@ use std::marker::Model;
 #[derive(Drop)]
 pub struct Seat<State: Object> {
     pub(crate) pass: Pass,
-    /// The calls that it has seen, except for the last few, as a reference counted list.
+    /// The calls that it has seen, without the last few, as a reference counted list of marks.
     pub(crate) earlier: Shared<SharedList<Mark<State::Call>>>,
     pub(crate) tail: Vec<Mark<State::Call>>,
     pub(crate) state: Shared<State>,
@@ -64,7 +64,7 @@ impl<State: Object> Seat<State> {
         self.pass.entry_count()
     }
 
-    /// Counts the snapshots that it installed from slots, not from seats that it was synchronised with;
+    /// Counts the snapshots that it installed from slots, without those from seats with which it was synchronised;
     /// saturates at 4,294,967,295. Only tested.
     pub fn adopted(&self) -> u32 {
         self.adopted

@@ -10,11 +10,11 @@ use camp_share::{Shared, SharedList};
 use std::alloc::{AllocError, Global};
 use std::marker::Model;
 
-/// A snapshot: all calls up to a position of the history, and the state after them. Contracts see it as a
-/// mark for each call, in order.
+/// A snapshot: all calls up to a position of the history, and the state after them. Contracts see a mark for each call,
+/// in order.
 #[derive(Drop)]
 pub struct HeadSnapshot<State: Object> {
-    /// All calls except for the last few, as a reference counted list.
+    /// The calls, without the last few, as a reference counted list of marks.
     pub(crate) earlier: Shared<SharedList<Mark<State::Call>>>,
     pub(crate) tail: Vec<Mark<State::Call>>,
     pub(crate) state: Shared<State>,
@@ -34,7 +34,7 @@ impl<State: Object> Model for HeadSnapshot<State> {
     ghost invariant = { λ snapshot. (length snapshot.earlier ≤ most_listed) × (replay (begun State.object (State.object.first snapshot.state)) (map seat_and_call (snapshot.earlier ++ snapshot.tail.items)) ≡ Some snapshot.state) };
 }
 
-/// A snapshot in a slot: the slot's index, and the token that shows the snapshot there.
+/// A snapshot in a slot: the slot's index, and the token by which it is read there.
 #[derive(Drop)]
 pub struct Base<State: Object> {
     pub(crate) slot: usize,
@@ -52,14 +52,14 @@ impl<State: Object> Base<State> {
     }
 }
 
-/// A snapshot in a slot, and its parent: the one that its maker had made or installed last.
+/// A snapshot in a slot, and its parent: the snapshot that its maker had made or installed before it.
 #[derive(Drop)]
 pub struct ParentLink<State: Object> {
     pub(crate) snapshot: Base<State>,
     pub(crate) parent: Option<Base<State>>,
 }
 
-/// The rule of slots of snapshots: the calls of a snapshot are in the store of the slot's head.
+/// The rule of the slots of snapshots: the calls of a snapshot are in the store of the slot's head.
 pub struct OfStore;
 
 /// Stores are identified by the numbers of their buckets.
@@ -69,10 +69,10 @@ impl<Call> Names<boxcar::Vec<Call>> for StoreIds {
     ghost numbers = { λ store. ids store };
 }
 
-/// A slot to which a snapshot is written once.
+/// A slot to which a snapshot is written at most once.
 pub type Slot<State> = OnceSlot<HeadSnapshot<State>, OfStore>;
 
-/// Makes `count` empty slots under a tag.
+/// Makes `count` empty slots with this tag.
 pub(crate) fn slots_under<X: Drop, Rule: SlotRule<X>>(
     alloc: Global,
     tag: &Tag,

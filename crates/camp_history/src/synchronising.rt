@@ -13,7 +13,7 @@ impl<State: Object> Head<State> {
     ghost use Rattle.camp_history.specs.Inside.Steps.{seen_entries, SeesFurther};
     ghost use Rattle.camp_history.specs.Snapshots.{HaveCommon};
 
-    /// Synchronises two seats, and lets the first see all that the second has seen.
+    /// Synchronises two seats: the first then has seen all that the second has seen.
     pub fn meet(
         &self,
         a: Seat<State>,
@@ -35,7 +35,7 @@ impl<State: Object> Head<State> {
         }
     }
 
-    /// Sees all of the chain that was found. Installs what the other seat has decided.
+    /// Sees all of the chain that the seat found. Installs what the other seat has decided.
     fn see_chain_of(&self, seat: &mut Seat<State>, other: &Seat<State>) -> Result<(), AllocError>
         requires of { IsSeatOf self.now seat.old }
         requires other { IsSeatOf self.now other.now }
@@ -46,7 +46,7 @@ impl<State: Object> Head<State> {
         self.see_chain(seat)
     }
 
-    /// Returns the number of calls that two seats have in common, by a snapshot that both noted.
+    /// Returns a number of calls that two seats have in common: the length of a snapshot that both noted.
     pub(crate) fn common_len_of_seats(&self, a: &Seat<State>, b: &Seat<State>) -> usize
         requires seats { IsSeatOf self.now a.now × IsSeatOf self.now b.now }
         ensures { HaveCommon a.now.marks b.now.marks result }
@@ -59,9 +59,9 @@ impl<State: Object> Head<State> {
         0
     }
 
-    /// States that two seats that found the same chain have the same calls, as far as both have seen it. Only
-    /// for the prover, and without effect at run time: it calls `agrees`, whose clause says that two marks of
-    /// the same index of the store are of the same call.
+    /// States for the prover that two seats that have found the same chain have the same calls, as far as both have
+    /// seen it. Without effect at run time: it calls `agrees`, whose clause says that two marks of the same index of
+    /// the store stand for the same call.
     fn compare(&self, a: &Seat<State>, b: &Seat<State>)
         requires seats { IsSeatOf self.now a.now × IsSeatOf self.now b.now }
         requires chain { a.now.known.ahead ≡ b.now.known.ahead }

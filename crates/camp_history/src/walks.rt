@@ -1,4 +1,4 @@
-//! Moving a seat along the row.
+//! Moving a seat along the chain of its row.
 ghost use Rattle.std.specs.Prelude.{◌≡◌, ℕ, ◌<◌, ◌+◌, ◌++◌, [], ◌∷◌, length, All, Some, IfOk, OnOk, OnErr, MatchOption, MatchResult, MatchBool};
 ghost use Rattle.camp_object.specs.declared.faults.Fault.TheVariants.{Memory};
 ghost use Rattle.camp_row.specs.Chains.{entry_count};
@@ -17,7 +17,7 @@ use std::alloc::AllocError;
 /// The most calls of a head's history: 64 seats with 65,536 each.
 const MOST_LISTED: usize = 4_194_304;
 
-/// Drafts the next cell with the index of a call in the store, and publishes it by a compare-exchange.
+/// Drafts the seat's next cell with the index of a call in the store, and publishes it by a compare-exchange.
 fn exchange_cell<G: Gate>(row: &Row, pass: &mut Pass, index: usize, gate: &G, lost: u32) -> bool
     requires row { pass.old.row ≡ row.now }
     requires room { entry_count pass.old.number pass.old.seen < row.now.per_seat }
@@ -35,7 +35,7 @@ impl<State: Object> Seat<State> {
     ghost use Rattle.camp_history.specs.Seats.{history_of};
     ghost use Rattle.camp_history.specs.Inside.Steps.{seen_entries, with_mark, DecidesAt, Publishes, FindsMore};
 
-    /// States the invariant of every seat. Does nothing at run time: callers' proofs use its clauses.
+    /// States the invariant of every seat for callers' proofs. Does nothing at run time.
     pub(crate) fn show_invariant(&self)
         ensures entries_are { seen_entries self.now ≡ self.now.known.seen }
         ensures first { IsFirst State.object self.now.first }
@@ -48,7 +48,7 @@ impl<State: Object> Seat<State> {
         let _number = self.number();
     }
 
-    /// Finds the chain as it is now.
+    /// Finds the chain as it is now, without seeing more of it.
     pub(crate) fn find_chain(&mut self, row: &Row)
         requires { self.old.known.row ≡ row.now }
         ensures { self.new ≡ record self.old { known = record self.old.known { ahead = self.new.known.ahead } } }
@@ -97,8 +97,8 @@ impl<State: Object> Seat<State> {
         Shared::new(*self.tail.allocator(), longer)
     }
 
-    /// Compacts the seat: if `most` marks or more are outside its reference counted list, moves them there,
-    /// as far as the list may grow.
+    /// Compacts the seat: if `most` marks or more are outside the reference counted list, moves them into it, as far as
+    /// the list may grow.
     fn compact(&mut self, most: usize) -> Result<(), AllocError>
         ensures { self.new ≡ self.old }
     {
@@ -129,19 +129,19 @@ impl<State: Object> Seat<State> {
         row.next(&mut self.pass, trail)
     }
 
-    /// Decides a call at what the seat has seen.
+    /// Decides a call, after the calls that the seat has seen.
     pub(crate) fn decide(
         &self,
         call: &State::Call,
     ) -> Result<Decided<State, State::Reply>, AllocError>
         ensures { IfOk result (DecidesAt (begun State.object self.now.first) (history_of self.now) call.now) }
     {
-        // Reading a field shows the prover the invariant of the seat.
+        // Reads a field, so that the prover sees the invariant of the seat.
         let _len = self.tail.len();
         self.state.decide(call)
     }
 
-    /// Computes the state after a next call, whichever seat asked it.
+    /// Computes the state after the next call of the chain, whichever seat asked it.
     fn next_state(&self, call: &State::Call) -> Result<Shared<State>, AllocError>
         ensures { IfOk result (λ next. (seat : ℕ) → replay (begun State.object self.now.first) (history_of self.now ++ (seat, call.now) ∷ []) ≡ Some next) }
     {
@@ -151,7 +151,7 @@ impl<State: Object> Seat<State> {
         Shared::new(*self.tail.allocator(), next)
     }
 
-    /// Sees the next entry of the chain, whose call and next state are given.
+    /// Marks the next entry of the chain as seen, whose call and next state are given.
     fn step(
         &mut self,
         row: &Row,
@@ -177,7 +177,7 @@ impl<State: Object> Seat<State> {
         Ok(())
     }
 
-    /// Publishes a call. Everything that has to grow is allocated before the compare-exchange.
+    /// Publishes a call. Allocates everything that has to grow before the compare-exchange.
     pub(crate) fn publish<G: Gate>(
         &mut self,
         row: &Row,
@@ -226,7 +226,8 @@ impl<State: Object> Head<State> {
         seat.step(&self.row, next, call, state)
     }
 
-    /// Sees all of the chain that was found: installs a snapshot if it can, and sees the rest entry by entry.
+    /// Sees all of the chain that was found: installs a snapshot if there is one, and sees the other entries one by
+    /// one.
     fn see_all(&self, seat: &mut Seat<State>) -> Result<(), AllocError>
         requires { IsSeatOf self.now seat.old }
         ensures sees_further { SeesFurther self.now seat.old seat.new }

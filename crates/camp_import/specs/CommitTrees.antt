@@ -15,24 +15,24 @@ use Rattle.camp_import.specs.declared.commit_trees.EntryFault.{EntryFault}
 use Rattle.camp_import.specs.declared.entry_changes.EntryChange.{EntryChange}
 use Rattle.camp_import.specs.declared.entry_changes.EntryChange.TheVariants.{Set, Delete, DeleteAll}
 
--- bytes begin with a prefix
+-- whether bytes begin with a prefix
 abbrev pub has_prefix : List ℕ → List ℕ → Bool
 has_prefix prefix bytes = bytes_eq prefix (take (length prefix) bytes)
 
--- a folder and `/`
+-- the path of a folder, followed by `/`
 abbrev pub folder_prefix : List ℕ → List ℕ
 folder_prefix folder = folder ++ slash ∷ []
 
--- a path is in a folder, or in a folder of it
+-- whether a path is in a folder, at any depth
 abbrev pub is_in_folder : List ℕ → List ℕ → Bool
 is_in_folder folder path = has_prefix (folder_prefix folder) path
 
--- the entries in a folder are gone, and all others stand as they did
+-- the new tree has no entry in a folder, and all others are unchanged
 pub record EmptiesFolder (folder : List ℕ) (old new : GitEntries) : Type 0 where
   pub gone : (path : List ℕ) → AreBytes path → is_in_folder folder path ≡ true → get new path ≡ None
   pub stays : (path : List ℕ) → is_in_folder folder path ≡ false → get new path ≡ get old path
 
--- the entry of a path, if there is one, is gone; else the entries in the folder of this path are
+-- the new tree has no entry at a path or, if there was none, none in the folder of this path
 abbrev pub DeletesEntry : List ℕ → Option GitFile → GitEntries → GitEntries → Type 0
 DeletesEntry path None old new = EmptiesFolder path old new
 DeletesEntry path (Some file) old new = new ≡ remove old path
@@ -43,21 +43,21 @@ ChangesEntries (Set mode content path) old new = new ≡ insert old path.items (
 ChangesEntries (Delete path) old new = DeletesEntry path.items (get old path.items) old new
 ChangesEntries DeleteAll old new = new ≡ empty
 
--- changes of entries lead from one git tree to another, each applied to the tree that those before it leave
+-- changes of entries lead from one git tree to another, each applied to the tree that those before it give
 abbrev pub ChangeThrough : List EntryChange → GitEntries → GitEntries → Type 0
 ChangeThrough [] old new = old ≡ new
 ChangeThrough (change ∷ changes) old new =
     (between : GitEntries) × ChangesEntries change old between × ChangeThrough changes between new
 
--- a camp tree is the code of what changes of entries lead to from a git tree, and differs from another camp tree only at
--- some paths
+-- a camp tree is the code of a git tree that changes of entries lead to, and differs from another camp tree only at
+-- these paths
 pub record EncodesChanged (changes : List EntryChange) (git : GitEntries) (old : Files) (changed : ChangedTree) : Type 0 where
   pub after : GitEntries
   pub leads : ChangeThrough changes git after
   pub encodes : EncodesTree after changed.tree
   pub differs : DifferWithin changed.paths old changed.tree
 
--- a change can't be held: it sets an entry that can't be put
+-- camp can't store the tree after a change: it sets an entry that can't be set
 abbrev pub CannotSet : EncodeFault → Option EntryChange → Type 0
 CannotSet Memory change = Unit {0}
 CannotSet why None = ⊥
@@ -65,15 +65,15 @@ CannotSet why (Some (Set mode content path)) = PutsFile path.items (record { mod
 CannotSet why (Some (Delete path)) = ⊥
 CannotSet why (Some DeleteAll) = ⊥
 
--- a change can be held: it sets no entry, or one that can be put
+-- camp can store the tree after a change: it sets no entry, or one that can be set
 abbrev pub CanBeHeld : EntryChange → Type 0
 CanBeHeld (Set mode content path) =
     HasCampPaths path.items (record { mode = mode; content = content.items }) × (length (stored_lines content.items) ≤ most_lines)
 CanBeHeld (Delete path) = Unit {0}
 CanBeHeld DeleteAll = Unit {0}
 
--- Ok: all changes can be held and, where the old tree is the code of a git tree, the new one is that of what they lead
--- to; a fault names the first change that can't be held
+-- Ok: camp can store the tree after each change; if the old tree is the code of a git tree, the new one is the code of
+-- the tree that the changes lead to. A fault is of the first change after which camp can't store the tree
 abbrev pub GivesTree : Files → List EntryChange → Result ChangedTree EntryFault → Type 0
 GivesTree old changes (Ok changed) =
     AllByRecursion CanBeHeld changes × ((git : GitEntries) → EncodesTree git old → EncodesChanged changes git old changed)

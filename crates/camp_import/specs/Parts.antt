@@ -4,13 +4,13 @@ use Rattle.camp_base.specs.Limits.{most_changes}
 use Rattle.camp_base.specs.Signs.{digit_zero, hyphen}
 use Rattle.camp_prim.specs.declared.primitives.Primitive.{Primitive}
 
--- changes in parts: each is the next 64 changes, or all that are left
+-- changes in parts: each has the next 64 changes, the last one all that are left
 abbrev pub ArePartsOf : List (List Primitive) → List Primitive → Type 0
 ArePartsOf [] changes = changes ≡ []
 ArePartsOf (part ∷ parts) changes =
     (0 < length changes) × (part ≡ take most_changes changes) × ArePartsOf parts (drop most_changes changes)
 
--- four decimal digits of a number below 10,000
+-- a number below 10,000 as four decimal digits
 abbrev pub four_digits : ℕ → List ℕ
 four_digits number =
     (digit_zero + number / 1_000 % 10) ∷ (digit_zero + number / 100 % 10) ∷ (digit_zero + number / 10 % 10)

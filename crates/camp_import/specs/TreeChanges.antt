@@ -13,7 +13,7 @@ use Rattle.camp_share.specs.Maps.{map_of}
 use Rattle.camp_import.specs.declared.edits.ChangeFault.{ChangeFault}
 use Rattle.camp_import.specs.declared.edits.ChangeFault.TheVariants.{Memory, TooManyLines}
 
--- changes lead from one tree to another, each applied to the tree that those before it leave
+-- changes lead from one tree to another, each applied to the tree that those before it give
 abbrev pub LeadThrough : List Primitive → Files → Files → Type 0
 LeadThrough [] old new = old ≡ new
 LeadThrough (change ∷ changes) old new = (between : Files) × Applies change old between × LeadThrough changes between new
@@ -26,11 +26,11 @@ most_file_lines = 1_000_000
 abbrev pub HasPath : List (List ℕ × Unit {0}) → List ℕ → Type 0
 HasPath set path = get (map_of (slice_cmp nat_cmp) set) path ≡ Some tt
 
--- two trees have the same files at all paths that are not in a set
+-- two trees have the same files at all paths outside a set
 abbrev pub DifferWithin : List (List ℕ × Unit {0}) → Files → Files → Type 0
 DifferWithin set old new = (path : List ℕ) → ¬ (HasPath set path) → get old path ≡ get new path
 
--- each path of a set has different files in two trees, or a file in one of them alone
+-- at each path of a set the files of two trees differ, or only one of them has a file
 abbrev pub HasDifferencesOnly : List (List ℕ × Unit {0}) → Files → Files → Type 0
 HasDifferencesOnly set old new = (path : List ℕ) → HasPath set path → get old path ≢ get new path
 
@@ -38,14 +38,15 @@ HasDifferencesOnly set old new = (path : List ℕ) → HasPath set path → get 
 abbrev pub IsOfDifference : Files → Files → Primitive → Type 0
 IsOfDifference old new change = get old (path_of change) ≢ get new (path_of change)
 
--- a tree has a file of too many lines
+-- a tree has a file with too many lines
 pub record HasLongFile (files : Files) : Type 0 where
   pub path : List ℕ
   pub lines : Lines
   pub found : get files path ≡ Some lines
   pub long : most_file_lines < length lines
 
--- the changes lead from the old tree to the new one; or one of the two has a file of too many lines; or memory ran out
+-- the changes lead from the old tree to the new one; or one of the two has a file with too many lines; or memory ran
+-- out
 abbrev pub GivesChanges : (old new : Files) → Result (Vec Primitive) ChangeFault → Type 0
 GivesChanges old new (Ok changes) = LeadThrough changes.items old new
 GivesChanges old new (Err TooManyLines) = HasLongFile old ⊎ HasLongFile new
@@ -55,7 +56,7 @@ GivesChanges old new (Err Memory) = Unit {0}
 abbrev pub most_side_lines : ℕ
 most_side_lines = 65_535
 
--- a script can hold a change: the sides of a hunk are not too long
+-- a script can represent a change: no side of a hunk is too long
 abbrev pub HasShortSides : Primitive → Type 0
 HasShortSides (Add path) = Unit {0}
 HasShortSides (Remove path) = Unit {0}

@@ -16,23 +16,23 @@ use camp_coding::{EncodeFault, Mode, encode_path, put_file, remove_file, unescap
 use camp_share::{Share, SharedMap};
 use std::alloc::{AllocError, Global};
 
-/// A tree, and the paths of camp at which it may differ from the one that it was made from.
+/// A tree, and the paths of camp at which it may differ from the tree that it was made from.
 #[derive(Drop)]
 pub struct ChangedTree {
     pub tree: Tree,
     pub paths: SharedMap<Path, ()>,
 }
 
-/// Why changes of entries give no tree.
+/// Why camp can't store the tree after some changes of entries.
 #[derive(Clone, Copy, PartialEq, Eq, Debug)]
 pub struct EntryFault {
-    /// The index of the first change that can't be held.
+    /// The index of the first change after which it can't.
     pub index: usize,
-    /// What is wrong.
+    /// What is wrong with the entry that the change sets.
     pub why: EncodeFault,
 }
 
-/// Returns the tree after changes of entries, each applied to what those before it leave.
+/// Returns the tree after changes of entries, each applied to the tree that those before it give.
 pub fn tree_after(
     alloc: Global,
     old: &Tree,
@@ -144,7 +144,7 @@ fn prefix_of(alloc: Global, folder: &[u8]) -> Result<Vec<u8>, AllocError>
     Ok(prefix)
 }
 
-/// Removes the entry that is stored at a path of camp, if its path has a prefix.
+/// Removes the entry of git that is stored at a path of camp, if the entry's path has a prefix.
 fn remove_if_below(
     alloc: Global,
     changed: &ChangedTree,
@@ -187,12 +187,12 @@ fn delete_all(alloc: Global, changed: &ChangedTree) -> Result<ChangedTree, Alloc
     Ok(ChangedTree { tree, paths })
 }
 
-/// The elements of a slice of `u8` are bytes.
+/// Shows the prover that the elements of a slice of `u8` are bytes.
 fn are_bytes(_bytes: &[u8])
     ensures { AreBytes _bytes.now }
 {}
 
-/// True if there is a file at the path of camp of a path of git.
+/// True if there is a file at the path in camp of a path of git.
 fn has_entry(alloc: Global, tree: &Tree, path: &[u8]) -> Result<bool, AllocError>
     ensures { IfOk result (λ has. has ≡ is_some (file_at tree.now None path.now)) }
 {

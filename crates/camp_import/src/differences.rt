@@ -9,7 +9,7 @@ use camp_base::{Line, Path, Tree};
 use camp_share::{Share, Shared, SharedList, SharedMap};
 use std::alloc::{AllocError, Global};
 
-/// Returns the paths whose files differ in two trees.
+/// Returns the paths at which the files of two trees differ.
 pub fn differing_paths(
     alloc: Global,
     old: &Tree,
@@ -23,7 +23,7 @@ pub fn differing_paths(
     Ok(both)
 }
 
-/// Adds the paths of the files of a tree that are not the same in another one.
+/// Adds the paths of those files of a tree that another one does not have, or has with other lines.
 pub(crate) fn with_others(
     alloc: Global,
     paths: SharedMap<Path, ()>,
@@ -39,7 +39,7 @@ pub(crate) fn with_others(
     Ok(found)
 }
 
-/// Adds the path of a file, unless another tree has the same file.
+/// Adds the path of a file unless another tree has the same file.
 fn with_other(
     paths: SharedMap<Path, ()>,
     file: &(Path, Shared<SharedList<Line>>),

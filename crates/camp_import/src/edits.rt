@@ -78,7 +78,7 @@ fn append_script(
     Ok(())
 }
 
-/// Appends the changes of one hunk: one, or several where a side has more than 65,535 lines.
+/// Appends the changes of one hunk: one, or several if a side has more than 65,535 lines.
 fn append_pieces(
     alloc: Global,
     changes: &mut Vec<Primitive>,
@@ -105,8 +105,8 @@ fn append_pieces(
     append_pieces(alloc, changes, path, old, new, rest)
 }
 
-/// Returns the first piece of a hunk that is too long: as many old lines as a side may have, or, where these
-/// fit, all of them and as many new ones. `None` if no side is too long.
+/// Returns the first piece of a hunk that is too long: as many old lines as a side may have or, if all old lines fit,
+/// these and as many new ones as fit. `None` if neither side is too long.
 fn first_piece(hunk: DiffHunk) -> Option<DiffHunk>
     requires old_ordered { hunk.old_start ≤ hunk.old_end }
     requires new_ordered { hunk.new_start ≤ hunk.new_end }

@@ -9,7 +9,7 @@ use camp_prim::Primitive;
 use camp_share::SharedList;
 use std::alloc::Global;
 
-/// Appends the changes that lead from one state of the file at a path to another, where it may be absent.
+/// Appends the changes that lead from one state of the file at a path to another; in either state there may be no file.
 pub(crate) fn append_file_changes(
     alloc: Global,
     changes: &mut Vec<Primitive>,

@@ -1,4 +1,4 @@
-//! Commits of git as changes of camp.
+//! Converting commits of git to changes of camp.
 #![tactic(auto)]
 
 mod commit_trees;

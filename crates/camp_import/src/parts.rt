@@ -13,11 +13,10 @@ use std::alloc::{AllocError, Global};
 /// The most changes of a patch.
 const MAX_CHANGES: usize = 64;
 
-/// The bytes of the name of a patch that the name of a part begins with.
+/// The number of bytes at the start of a patch's name with which the name of a part begins.
 const PREFIX_LENGTH: usize = 35;
 
-/// Cuts changes into parts, each of which a patch may have: each part is the next 64 changes, or all that are
-/// left.
+/// Divides changes into parts that a patch may have: each has the next 64 changes, the last one all that are left.
 pub fn into_parts(
     alloc: Global,
     mut changes: Vec<Primitive>,
@@ -34,7 +33,7 @@ pub fn into_parts(
     Ok(parts)
 }
 
-/// Takes the next part from changes that stand in reverse order.
+/// Removes the next part from changes in reverse order, and returns it.
 fn take_part(alloc: Global, changes: &mut Vec<Primitive>) -> Result<Vec<Primitive>, AllocError>
     ensures { IfOk result (λ part. (part.items ≡ take 64 (reverse changes.old.items)) × (reverse changes.new.items ≡ drop 64 (reverse changes.old.items))) }
 {
@@ -48,8 +47,8 @@ fn take_part(alloc: Global, changes: &mut Vec<Primitive>) -> Result<Vec<Primitiv
     Ok(part)
 }
 
-/// Returns the name of the part at `index`, of `count`: the last part has the name of the patch; another one
-/// has its first 35 bytes, `-` and four digits. `None` exactly if that is no name.
+/// Returns the name of the part at `index` of `count` parts: the last part has the name of the patch; another one has
+/// its first 35 bytes, `-` and four digits. `None` exactly if these are no name.
 pub fn part_name(
     alloc: Global,
     name: Name,

@@ -1,4 +1,4 @@
-//! Parts of a commit of many changes.
+//! Tests of the parts of a commit with many changes.
 
 use crate::{into_parts, part_name};
 use camp_base::{Name, Path};
@@ -6,7 +6,7 @@ use camp_prim::Primitive;
 use std::process::Abort;
 use std::test::Fail;
 
-/// 130 changes are two parts of 64 and one of 2; the last part has the name of the patch.
+/// 130 changes make two parts of 64 and one of 2; the last part has the name of the patch.
 #[test]
 fn parts(rt: HostRuntime) -> Result<(), Fail> {
     let alloc = rt.alloc();

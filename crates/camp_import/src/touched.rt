@@ -10,7 +10,7 @@ use camp_coding::{Attribute, encode_attribute_path, encode_path};
 use camp_share::{Share, SharedMap};
 use std::alloc::{AllocError, Global};
 
-/// Adds the paths of camp of a path of git and of its attributes to a set.
+/// Adds to a set the paths in camp of a path of git and of its attributes.
 pub(crate) fn with_places(
     alloc: Global,
     paths: &SharedMap<Path, ()>,

@@ -11,8 +11,8 @@ use camp_prim::Primitive;
 use camp_share::SharedMap;
 use std::alloc::Global;
 
-/// Returns the changes that lead from one tree to another. The two trees may differ only at the given paths;
-/// changes come in the order of their paths, and an unchanged file has none.
+/// Returns the changes that lead from one tree to another, in the order of their paths. The two trees may differ only
+/// at the given paths; a file that is the same in both has no change.
 pub fn changes_between(
     alloc: Global,
     paths: &SharedMap<Path, ()>,

@@ -11,15 +11,15 @@ use Rattle.camp_repo.specs.States.{Contents}
 use Rattle.camp_script.specs.Canonical.{IsScriptCall}
 use Rattle.camp_script.specs.Keeping.{calls_of}
 
--- calls at seat 0
+-- calls, all at seat 0
 abbrev pub alone : List Call → List (ℕ × Call)
 alone calls = map (λ call. (0, call)) calls
 
--- the history of a repository: the state that it began with, and its accepted calls
+-- the history of a repository: its initial state, and its accepted calls
 abbrev pub History : Type 0
 History = Booked Contents Call
 
--- what a store contains: the limits of its repository, and its accepted calls
+-- the contents of a store: the limits of its repository, and its accepted calls
 pub record StoreContents : Type 0 where
   pub limits : Bounds
   pub calls : List Call
@@ -28,16 +28,16 @@ pub record StoreContents : Type 0 where
 abbrev pub empty_within : Bounds → StoreContents
 empty_within limits = record { limits = limits; calls = [] }
 
--- the limits and the accepted calls of a history
+-- the contents of a store for this history: its limits, and its accepted calls
 abbrev pub accepted_of : History → StoreContents
 accepted_of history = record { limits = history.first.limits; calls = calls_of history.calls }
 
--- the contents at an earlier moment: the same limits, and a prefix of the calls
+-- earlier contents: the same limits, and a prefix of the calls
 pub record IsPrefixOf (prefix whole : StoreContents) : Type 0 where
   pub limits : prefix.limits ≡ whole.limits
   pub calls : IsBeginning prefix.calls whole.calls
 
--- calls that a script can contain, each accepted after those before it, by a repository with these limits
+-- calls that a script can contain, each accepted after those before it, in a repository with these limits
 pub record AreAccepted (stored : StoreContents) : Type 0 where
   pub range : CanBeLimits stored.limits
   pub can : AllByRecursion IsScriptCall stored.calls

@@ -15,7 +15,7 @@ use Rattle.camp_store.specs.Counting.{ReportsFault}
 use Rattle.camp_store.specs.declared.faults.StoreFault.{StoreFault}
 use Rattle.camp_store.specs.declared.faults.StoreFault.TheVariants as store
 
--- a fault of a file of texts, as one of a store: if there is no text before the damage, it is not a store
+-- a fault of a log file, as one of a store: with damage before the first text it is not a store
 abbrev pub fault_of : StoreFault → PersistenceFault
 fault_of store.Memory = persistence.Memory
 fault_of (store.Disk error) = persistence.Store (store.Disk error)
@@ -24,18 +24,18 @@ fault_of (store.Damaged zero at) = persistence.NoStore
 fault_of (store.Damaged (suc texts) at) = persistence.Damaged (suc texts) at
 fault_of store.Failed = persistence.Store store.Failed
 
--- a file is not a store: it does not begin with the block of a title, and it is not a store that is being created,
--- with no text and few bytes
+-- a file is not a store: it does not begin with the block of a title, and it is not a new store, which has no text and
+-- few bytes
 pub record IsNoStore (file : List ℕ) : Type 0 where
   pub untitled : (limits : Bounds) → CanBeLimits limits → (after : List ℕ) → ¬ (IsBlock first_digest (title_of limits) after file)
   pub long : DecodesTo [] file → max_untitled_len < length file
 
--- neither a block after these texts nor an end begins here
+-- at this offset, after these texts, neither a block nor an end begins
 pub record IsNoBlock (texts : List (List ℕ)) (rest : List ℕ) : Type 0 where
   pub no_end : ¬ (IsEnd rest)
   pub no_block : (text after : List ℕ) → ¬ (IsBlock (chain first_digest texts) text after rest)
 
--- after a store of calls the file has here the block of a text that decodes to no call accepted after them
+-- after a store of calls there is at this offset the block of a text that decodes to no call accepted after them
 pub record IsBlockOfNoCall (texts : List (List ℕ)) (rest : List ℕ) : Type 0 where
   pub before : StoreContents
   pub accepted : AreAccepted before
@@ -45,7 +45,7 @@ pub record IsBlockOfNoCall (texts : List (List ℕ)) (rest : List ℕ) : Type 0 
   pub block : IsBlock (chain first_digest texts) text after rest
   pub none : (call : Call) → IsScriptCall call → call_text call ≡ text → ¬ (IsAccepted (repository_within before.limits) (alone before.calls) call)
 
--- a reported number is this one, unless this one does not fit in 64 bits
+-- the reported number is this one, or this one does not fit in 64 bits
 abbrev pub ReportsNumber : ℕ → ℕ → Type 0
 ReportsNumber reported number = (reported ≡ number) ⊎ (2 ^ 64 ≤ number)
 
@@ -62,16 +62,16 @@ pub record IsDamagedAt (call at : ℕ) (file : List ℕ) : Type 0 where
   pub at_is : ReportsNumber at (length front)
   pub wrong : IsNoBlock texts rest ⊎ IsBlockOfNoCall texts rest
 
--- the file is a store with these limits, and others are wanted
+-- the file is a store with these limits, which are not the wanted ones
 pub record HasOtherLimits (wanted : Option Bounds) (limits : Bounds) (file : List ℕ) : Type 0 where
   pub range : CanBeLimits limits
   pub texts : List (List ℕ)
   pub decodes : DecodesTo (title_of limits ∷ texts) file
   pub unwanted : ¬ (AreAsWanted wanted limits)
 
--- why the bytes of a file are refused. NoStore: they are not a store. Damaged: they do not decode to calls that are each
--- accepted after those before, and this is the first that is missing. OtherLimits: they are a store with limits that
--- are not the wanted ones. Memory: memory has run out.
+-- why the bytes of a file are refused. NoStore: they are not a store. Damaged: at this call they do not decode to a
+-- call accepted after those before it. OtherLimits: they are a store, but not with the wanted limits. Memory: memory
+-- ran out.
 abbrev pub RefusesFile : Option Bounds → PersistenceFault → List ℕ → Type 0
 RefusesFile wanted persistence.Memory file = Unit {0}
 RefusesFile wanted persistence.NoStore file = IsNoStore file
@@ -81,29 +81,29 @@ RefusesFile wanted (persistence.OtherLimits catches branches) file =
     HasOtherLimits wanted (record { catches = catches; branches = branches }) file
 RefusesFile wanted (persistence.Store fault) file = ⊥
 
--- a fault that is due to the bytes of the file: they are not a store, damaged, or a store with other limits
+-- a fault that comes from the bytes of the file: they are not a store, are damaged, or are a store with other limits
 abbrev pub IsContentFault : PersistenceFault → Type 0
 IsContentFault persistence.NoStore = Unit {0}
 IsContentFault (persistence.Damaged call at) = Unit {0}
 IsContentFault (persistence.OtherLimits catches branches) = Unit {0}
 IsContentFault other = ⊥
 
--- no fault of a disk is reported
+-- no disk fault is reported
 abbrev pub IsNoDiskFault : PersistenceFault → Type 0
 IsNoDiskFault (persistence.Store fault) = ⊥
 IsNoDiskFault other = Unit {0}
 
--- a disk fault is reported only if one of the disk calls has failed
+-- a disk fault is reported only if a disk call has failed
 abbrev pub ReportsDiskFault : PersistenceFault → ℕ → ℕ → Type 0
 ReportsDiskFault (persistence.Store fault) old new = ReportsFault fault old new
 ReportsDiskFault other old new = Unit {0}
 
--- Ok: no disk call has failed; a disk fault is reported only if one has
+-- after `Ok` no disk call has failed; a disk fault is reported only if one has
 abbrev pub CountsDiskFaults : {T : Type 0} → Result T PersistenceFault → ℕ → ℕ → Type 0
 CountsDiskFaults result old new = MatchResult result (λ _. new ≡ old) (λ why. ReportsDiskFault why old new)
 
--- why a disk is not opened: its bytes are refused, or it has failed; Failed: it had failed before, and may not be
--- used
+-- why a disk is not opened: its bytes are refused, or a disk call has failed. Failed: one had failed before, so the
+-- disk may not be used
 abbrev pub RefusesToOpen : Bool → Option Bounds → PersistenceFault → List ℕ → Type 0
 RefusesToOpen usable wanted (persistence.Store (store.Disk error)) file = Unit {0}
 RefusesToOpen usable wanted (persistence.Store store.Failed) file = usable ≡ false
@@ -116,8 +116,8 @@ RefusesToOpen usable wanted (persistence.Damaged call at) file = RefusesFile wan
 RefusesToOpen usable wanted (persistence.OtherLimits catches branches) file =
     RefusesFile wanted (persistence.OtherLimits catches branches) file
 
--- why a store with these limits is not opened: only out of memory or the disk prevents it, or it has other limits than
--- the wanted ones; Failed: the disk had failed before
+-- why a file that is a store with these limits is not opened: memory, the disk, or other wanted limits. Failed: a disk
+-- call had failed before
 abbrev pub IsOpeningFault : Bool → Option Bounds → Bounds → PersistenceFault → Type 0
 IsOpeningFault usable wanted limits persistence.Memory = Unit {0}
 IsOpeningFault usable wanted limits persistence.NoStore = ⊥
@@ -130,7 +130,7 @@ IsOpeningFault usable wanted limits (persistence.Store store.Memory) = ⊥
 IsOpeningFault usable wanted limits (persistence.Store store.TooLong) = ⊥
 IsOpeningFault usable wanted limits (persistence.Store (store.Damaged count at)) = ⊥
 
--- why no title was appended: memory has run out, or the disk has failed
+-- why no title was appended: memory ran out, or the disk has failed
 abbrev pub IsTitleFault : PersistenceFault → Type 0
 IsTitleFault persistence.Memory = Unit {0}
 IsTitleFault persistence.NoStore = ⊥
@@ -142,8 +142,8 @@ IsTitleFault (persistence.Store store.Memory) = ⊥
 IsTitleFault (persistence.Store store.TooLong) = ⊥
 IsTitleFault (persistence.Store (store.Damaged count at)) = ⊥
 
--- why calls are not persisted: memory has run out, the disk has failed, now or before, a text or the file would be
--- too long, or the book has fewer calls than were persisted; a file that is not a store, or damaged, is not reported
+-- why calls are not persisted: memory ran out, the disk has failed, now or before, a text or the file would be too
+-- long, or the book has fewer calls than were persisted. That a file is not a store, or is damaged, is not reported
 -- here
 abbrev pub IsCommitFault : PersistenceFault → Type 0
 IsCommitFault persistence.Memory = Unit {0}

@@ -8,14 +8,14 @@ use Rattle.camp_kept.specs.Titles.{new_limits}
 use Rattle.camp_kept.specs.declared.faults.PersistenceFault.{PersistenceFault}
 use Rattle.camp_repo.specs.Limits.{Bounds}
 
--- the limits and the calls found by opening the file are exactly these; and opening fails only because of the disk, out
--- of memory, or because other limits are wanted
+-- the limits and the calls found by opening the file are exactly these; opening fails only because of memory, the disk,
+-- or other wanted limits
 pub record OpensAs (wanted : Option Bounds) (stored : StoreContents) (file : List ℕ) : Type 0 where
   pub just : (texts : List (List ℕ)) (found : StoreContents) (count : ℕ) → AreTexts (new_limits wanted) texts found → AreAccepted found → HasTornTail texts file count → found ≡ stored
   pub refused : (usable : Bool) (why : PersistenceFault) → RefusesToOpen usable wanted why file → IsOpeningFault usable wanted stored.limits why
 
--- a store of calls decodes to them; and a file that decodes to calls which are accepted one after the other, as a
--- store or one being created does, is opened with exactly these
+-- a store of calls decodes to these calls; and a file that decodes to calls which are accepted one after the other is
+-- opened with exactly these: a store, or one that is being created
 pub record StoresAreOpened : Type 0 where
   pub decodes : (new : Bounds) (stored : StoreContents) (file : List ℕ) → IsStoreOf stored file → DecodesToCalls new stored file
   pub opened : (wanted : Option Bounds) (stored : StoreContents) (file : List ℕ) → AreAccepted stored → DecodesToCalls (new_limits wanted) stored file → OpensAs wanted stored file

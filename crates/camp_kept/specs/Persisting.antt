@@ -1,4 +1,4 @@
--- The accepted calls of a repository, as a store has them.
+-- The accepted calls of a repository, as texts in a file.
 use Rattle.std.specs.Prelude.{◌≡◌, ◌⊎◌, ◌≤◌, ℕ, Bool, false, List, [], ◌∷◌, length, map}
 use Rattle.camp_call.specs.declared.calls.Call.{Call}
 use Rattle.camp_kept.specs.Accepting.{AreAccepted, IsPrefixOf, StoreContents, accepted_of, empty_within}
@@ -12,7 +12,7 @@ use Rattle.camp_store.specs.Blocks.{DecodesTo}
 use Rattle.camp_store.specs.Logs.{PersistsTexts, disk_of, may_append}
 use Rattle.camp_store.specs.declared.faults.StoreFault.TheVariants as store
 
--- the most bytes that a file without a text may have to count as a store being created
+-- the most bytes of a file without a text that counts as a new store
 abbrev pub max_untitled_len : ℕ
 max_untitled_len = 80
 
@@ -20,37 +20,39 @@ max_untitled_len = 80
 abbrev pub call_texts : List Call → List (List ℕ)
 call_texts calls = map call_text calls
 
--- the texts of a store: its title, which says its limits, and those of its calls
+-- the texts of a store: its title, which contains its limits, and those of its calls
 abbrev pub store_texts : StoreContents → List (List ℕ)
 store_texts stored = title_of stored.limits ∷ call_texts stored.calls
 
--- these texts are a store of these calls; or there are no texts yet, and no calls within the limits of a new store
+-- these texts are a store with these contents; or there are no texts yet, no calls, and the limits that a new store
+-- would get
 abbrev pub AreTexts : Bounds → List (List ℕ) → StoreContents → Type 0
 AreTexts new texts stored = (texts ≡ store_texts stored) ⊎ ((texts ≡ []) × (stored ≡ empty_within new))
 
--- the file decodes to these calls: it has the texts of their store; or no text and few bytes, and then no calls within
--- the limits of a new store
+-- the file decodes to these contents: its texts are a store with them; or it has no text and few bytes, and the
+-- contents are the limits that a new store would get, without calls
 pub record DecodesToCalls (new : Bounds) (stored : StoreContents) (file : List ℕ) : Type 0 where
   pub texts : List (List ℕ)
   pub are : AreTexts new texts stored
   pub decodes : DecodesTo texts file
   pub short : texts ≡ [] → length file ≤ max_untitled_len
 
--- the file is a store of these calls: it has its title and their texts, and each is accepted after those before it
+-- the file is a store with these contents: it has its title and the texts of its calls, each accepted after those
+-- before it
 pub record IsStoreOf (stored : StoreContents) (file : List ℕ) : Type 0 where
   pub decodes : DecodesTo (store_texts stored) file
   pub accepted : AreAccepted stored
 
 -- two properties of a disk: what a read returns, and what a crash may leave
 module _ {D : Type 0} (seen : D → List ℕ) (may_leave : D → List ℕ → Type 0) where
-  -- these calls, each accepted after those before it, are durable after the title, and the repository knows how many
-  -- they are
+  -- the title and these calls, each accepted after those before it, are durable, and the repository knows the number of
+  -- the calls
   pub record PersistsCalls (stored : StoreContents) (repository : DurableRepository D) : Type 0 where
     pub accepted : AreAccepted stored
     pub texts : PersistsTexts seen may_leave (store_texts stored) repository.log
     pub count_is : repository.durable_count ≡ length stored.calls
 
-  -- whatever a crash leaves decodes to these calls
+  -- whatever a crash leaves decodes to these contents
   abbrev pub LeavesCalls : Bounds → StoreContents → D → Type 0
   LeavesCalls new stored disk = (c : List ℕ) → may_leave disk c → DecodesToCalls new stored c
 
@@ -58,15 +60,15 @@ module _ {D : Type 0} (seen : D → List ℕ) (may_leave : D → List ℕ → Ty
 abbrev pub disk_in : {D : Type 0} → DurableRepository D → D
 disk_in repository = disk_of repository.log
 
--- what a durable repository has accepted, persisted or not
+-- the contents that a durable repository has in memory, durable or not
 abbrev pub accepted_by : {D : Type 0} → DurableRepository D → StoreContents
 accepted_by repository = accepted_of repository.book
 
--- the number of bytes of the torn tail that the file had when it was opened
+-- the length of the torn tail that the file had when it was opened, in bytes
 abbrev pub torn_tail_len_in : {D : Type 0} → DurableRepository D → ℕ
 torn_tail_len_in repository = repository.torn_tail_len
 
--- the limits and a prefix of the accepted calls of a durable repository
+-- the limits, and a prefix of the accepted calls, of a durable repository
 abbrev pub AreFirstCalls : {D : Type 0} → StoreContents → DurableRepository D → Type 0
 AreFirstCalls stored repository = IsPrefixOf stored (accepted_by repository)
 
@@ -78,7 +80,7 @@ durable_count_in repository = repository.durable_count
 abbrev pub may_commit : {D : Type 0} → DurableRepository D → Bool
 may_commit repository = may_append repository.log
 
--- what a commit that is not acknowledged leaves: the repository unchanged or, if the disk has failed, one that
+-- what is left after a commit that is not acknowledged: the unchanged repository or, if the disk has failed, one that
 -- commits no more
 abbrev pub LeavesRepository : {D : Type 0} → PersistenceFault → DurableRepository D → DurableRepository D → Type 0
 LeavesRepository (fault.Store (store.Disk error)) old new = may_commit new ≡ false
@@ -91,7 +93,7 @@ LeavesRepository fault.NoStore old new = new ≡ old
 LeavesRepository (fault.Damaged call at) old new = new ≡ old
 LeavesRepository (fault.OtherLimits catches branches) old new = new ≡ old
 
--- a disk on which nothing was written: a read returns the same, and a crash leaves one of the same files
+-- a disk to which nothing was written: a read returns the same, and a crash leaves one of the same files
 pub record IsUntouched {D : Type 0} (seen : D → List ℕ) (may_leave : D → List ℕ → Type 0) (old new : D) : Type 0 where
   pub same : seen new ≡ seen old
   pub no_more : (c : List ℕ) → may_leave new c → may_leave old c

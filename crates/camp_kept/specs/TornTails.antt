@@ -6,12 +6,12 @@ use Rattle.camp_kept.specs.declared.inspections.Inspection.{Inspection}
 use Rattle.camp_repo.specs.Limits.{default_bounds}
 use Rattle.camp_store.specs.Blocks.{AreBlocks, IsEnd, chain, closed_mark, first_digest}
 
--- the length of the torn tail in the bytes after the last block: those after a closed mark, or all
+-- the length of the torn tail in the bytes after the last block: those after a closed mark, or all if there is none
 abbrev pub torn_tail_len : List ℕ → ℕ
 torn_tail_len [] = 0
 torn_tail_len (mark ∷ rest) = if mark == closed_mark then length rest else length rest + 1
 
--- the file is the blocks of these texts and an end, whose torn tail has this number of bytes
+-- the file is the blocks of these texts and an end, with a torn tail of this length
 pub record HasTornTail (texts : List (List ℕ)) (file : List ℕ) (count : ℕ) : Type 0 where
   pub front : List ℕ
   pub end : List ℕ
@@ -19,11 +19,11 @@ pub record HasTornTail (texts : List (List ℕ)) (file : List ℕ) (count : ℕ)
   pub are : AreBlocks first_digest texts front
   pub ends : IsEnd end
   pub count_is : count ≡ torn_tail_len end
-  -- a file without a text has few bytes
+  -- if a file has no text, it has few bytes
   pub short : texts ≡ [] → length file ≤ max_untitled_len
 
--- the result of an inspection: the number of calls of the file, each accepted after those before it, the digest of
--- its texts, and the length of its torn tail
+-- the result of an inspection: the number of calls in the file, each accepted after those before it, the digest of its
+-- texts, and the length of its torn tail
 pub record IsInspection (file : List ℕ) (found : Inspection) : Type 0 where
   pub stored : StoreContents
   pub accepted : AreAccepted stored

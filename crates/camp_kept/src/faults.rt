@@ -12,17 +12,17 @@ use thiserror::Error;
 pub enum PersistenceFault {
     #[error("out of memory")]
     Memory,
-    /// The file exists, and is not a store.
+    /// The file exists but is not a store.
     #[error("no store of camp")]
     NoStore,
-    /// The block at this offset does not decode to a call that is accepted after those before it; calls count
+    /// At this offset there is no block of a call that is accepted after those before it; `call` is its number, counted
     /// from 1.
     #[error("damaged at call {call}, byte {at}")]
     Damaged { call: usize, at: usize },
-    /// The store has these limits, and others are wanted.
+    /// The store has these limits, which are not the wanted ones.
     #[error("the store has other limits: catches={catches},branches={branches}")]
     OtherLimits { catches: usize, branches: usize },
-    /// The fault of the file.
+    /// The fault of the log file.
     #[error("{0}")]
     Store(StoreFault),
 }

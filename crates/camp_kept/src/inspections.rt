@@ -8,14 +8,14 @@ use crate::openings::{replay_reading, torn_tail_len};
 use camp_store::{Digest, decode};
 use std::alloc::Global;
 
-/// The decoded content of a file.
+/// What a file contains.
 #[derive(Clone, Copy, Debug)]
 pub struct Inspection {
     /// The number of calls.
     pub calls: usize,
     /// The digest of their texts.
     pub digest: Digest,
-    /// The length of the torn tail: bytes at the end that do not count.
+    /// The length of the torn tail: the bytes at the end that do not count.
     pub torn_tail_len: usize,
 }
 

@@ -17,6 +17,5 @@ pub use inspections::{Inspection, inspect};
 pub use laws::stores_are_opened;
 pub use repositories::DurableRepository;
 
-/// The most bytes that a file without a title may have to count as a store being created: more than one has,
-/// whatever its limits.
+/// The most bytes of a file without a title that counts as a new store. No title has as many, whatever its limits.
 const MAX_UNTITLED_LEN: usize = 80;

@@ -19,8 +19,7 @@ use camp_repo::{Book, Limits, State};
 use camp_store::{Disk, Log, Reading, read};
 use std::alloc::Global;
 
-/// Reads what a disk persists, and replays the calls, by a repository with the wanted limits, if any are
-/// wanted.
+/// Reads what a disk persists, and replays the calls. If limits are wanted, the store has to have them.
 pub(crate) fn recover<D: Disk>(
     alloc: Global,
     disk: &mut D,
@@ -42,7 +41,7 @@ pub(crate) fn recover<D: Disk>(
     Ok((reading, book))
 }
 
-/// Replays the calls whose texts were read, by a repository with the wanted limits, if any are wanted.
+/// Replays the calls whose texts were read. If limits are wanted, the store has to have them.
 pub(crate) fn replay_reading(
     alloc: Global,
     reading: &Reading,
@@ -59,7 +58,7 @@ pub(crate) fn replay_reading(
     replay(alloc, &reading.texts, wanted)
 }
 
-/// Returns the length of the torn tail of a file: bytes at its end that do not count.
+/// Returns the length of the torn tail of a file: the bytes at its end that do not count.
 pub(crate) fn torn_tail_len(reading: &Reading) -> usize
     ensures { (file : List ℕ) → IsDecodedFrom file reading.now → (texts_of reading.now.texts.items ≡ [] → reading.now.tail_len ≤ max_untitled_len)
         → HasTornTail (texts_of reading.now.texts.items) file result }
@@ -71,7 +70,7 @@ pub(crate) fn torn_tail_len(reading: &Reading) -> usize
     }
 }
 
-/// Appends the title of a new store with these limits, if no text was read.
+/// Appends the title of a new store with these limits, unless there is a text already.
 pub(crate) fn ensure_title<D: Disk>(
     alloc: Global,
     log: Log<D>,

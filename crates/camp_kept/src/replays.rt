@@ -13,11 +13,11 @@ use camp_repo::{Book, Call, Limits, Object, State, new_book};
 use camp_script::parse_call;
 use std::alloc::{AllocError, Global};
 
-/// Bytes of a block before its text: its mark and its head.
+/// The number of bytes of a block before its text: its mark and its head.
 const BEFORE_TEXT: usize = 27;
 
-/// Replays the calls with these texts on a new book. The first text is the title; if limits are wanted, it
-/// has to say these. Without texts the book is empty.
+/// Replays the calls with these texts on a new book. The first text is the title; if limits are wanted, it has to
+/// contain them. Without texts the book is empty.
 #[tactic(auto, using(crate::proofs::ReplayLemmas::none_recovered))]
 pub(crate) fn replay(
     alloc: Global,
@@ -35,7 +35,7 @@ pub(crate) fn replay(
     replay_all(alloc, limits, title, others)
 }
 
-// Replays the calls with these texts, which come after the title of a store with these limits, on a new book.
+// Replays on a new book the calls with these texts, which come after the title of a store with these limits.
 fn replay_all(
     alloc: Global,
     limits: Limits,
@@ -53,8 +53,8 @@ fn replay_all(
     Ok(book)
 }
 
-// Executes the calls with these texts, which come after a title, on a new book; the fault says which text is
-// not an accepted call, and its offset in the file.
+// Executes on a new book the calls with these texts, which come after a title. The fault contains the number of the
+// first text that is no accepted call, and its offset in the file.
 fn replay_each(
     alloc: Global,
     book: &mut Book<State>,
@@ -79,7 +79,7 @@ fn replay_each(
     Ok(())
 }
 
-// Parses a text and executes its call; true if it is a call and was accepted.
+// Parses a text and executes its call. True if it is a call and was accepted.
 fn replay_call(alloc: Global, book: &mut Book<State>, text: &[u8]) -> Result<bool, AllocError>
     ensures { IfOk result (λ yes. ReplaysText book.old text.now yes book.new) }
 {
@@ -89,7 +89,7 @@ fn replay_call(alloc: Global, book: &mut Book<State>, text: &[u8]) -> Result<boo
     }
 }
 
-// Executes a call; true if it was accepted.
+// Executes a call. True if it was accepted.
 #[tactic(auto, using(crate::proofs::ReplayLemmas::executes_call))]
 fn execute(book: &mut Book<State>, call: &Call) -> Result<bool, AllocError>
     ensures { IfOk result (λ yes. ExecutesCall book.old call.now yes book.new) }

@@ -15,7 +15,7 @@ use camp_repo::{Book, Limits, State};
 use camp_store::{Disk, Log, StoreFault};
 use std::alloc::Global;
 
-/// A book whose accepted calls are persisted on a disk: all of them after each commit.
+/// A book with a disk. All of its accepted calls are durable after each commit.
 #[derive(Drop)]
 pub struct DurableRepository<D: Disk> {
     /// The book. Execute calls on it; do not replace it by another.
@@ -31,9 +31,9 @@ impl<D: Disk> DurableRepository<D> {
     ghost use Rattle.camp_kept.specs.TornTails.{HasTornTail};
     ghost use Rattle.camp_kept.specs.Persisting.{AreFirstCalls, AreTexts, LeavesRepository, PersistsCalls, accepted_by, disk_in, durable_count_in, may_commit, torn_tail_len_in};
 
-    /// Opens the repository that is persisted on a disk; creates a store on an empty one. If limits are
-    /// wanted, a new store gets these, and an existing one has to have them; else a new store gets the
-    /// default ones. A crash during this loses no durable call.
+    /// Opens the repository that is persisted on a disk; creates a store on an empty one. If limits are wanted, an
+    /// existing store has to have them, and a new store gets them; else a new store gets the default ones. A crash
+    /// during this call loses no durable call.
     pub fn open(
         alloc: Global,
         mut disk: D,
@@ -44,13 +44,13 @@ impl<D: Disk> DurableRepository<D> {
             × AreTexts (new_limits wanted) texts (accepted_by repository) × HasTornTail texts (D.Disk.seen disk) (torn_tail_len_in repository)) }
         ensures wanted { IfOk result (λ repository. AreAsWanted wanted (accepted_by repository).limits) }
         ensures refused { IfErr result (λ e. IsTrue (D.Disk.is_clean e.1) → RefusesToOpen (D.Disk.is_usable disk) wanted e.0 (D.Disk.seen disk)) }
-        // A file that is not a store, is damaged, or has other limits, is unchanged.
+        // A file that is not a store, is damaged, or has other limits, stays unchanged.
         ensures untouched { IfErr result (λ e. IsContentFault e.0 → IsUntouched D.Disk.seen D.Disk.may_leave disk e.1) }
         ensures known { IfOk result (λ repository. durable_count_in repository ≡ length (accepted_by repository).calls) }
         ensures open_to_commits { IfOk result (λ repository. IsTrue (may_commit repository)) }
         ensures faults { IfOk result (λ repository. D.Disk.faults (disk_in repository) ≡ D.Disk.faults disk) }
         ensures faults_err { IfErr result (λ e. ReportsDiskFault e.0 (D.Disk.faults disk) (D.Disk.faults e.1)) }
-        // A crash leaves a file with the same limits and calls.
+        // A crash leaves a file with the same contents.
         ensures crash { IfOk result (λ repository. (stored : StoreContents) → LeavesCalls D.Disk.seen D.Disk.may_leave (new_limits wanted) stored disk
             → IsTrue (D.Disk.is_clean (disk_in repository)) → LeavesCalls D.Disk.seen D.Disk.may_leave (new_limits wanted) stored (disk_in repository)) }
         ensures crash_err { IfErr result (λ e. (stored : StoreContents) → LeavesCalls D.Disk.seen D.Disk.may_leave (new_limits wanted) stored disk
@@ -91,9 +91,9 @@ impl<D: Disk> DurableRepository<D> {
         self.book.history().len().saturating_sub(self.durable_count)
     }
 
-    /// Persists all accepted calls of the book. After `Ok` they are durable: from then on each crash leaves a
-    /// file with them. After an `Err` a crash leaves those from before the call, or all of them. If the disk
-    /// has failed, no later commit uses it: each returns `Failed` and changes nothing.
+    /// Persists all accepted calls of the book. After `Ok` each crash leaves a file with all of them. After an error a
+    /// crash leaves those that were durable before the call, or all. If the disk has failed, no later commit uses it:
+    /// each returns `Failed` and changes nothing.
     pub fn commit(&mut self, alloc: Global) -> Result<(), PersistenceFault>
         ensures acknowledged { (stored : StoreContents) → AreFirstCalls stored self.old → PersistsCalls D.Disk.seen D.Disk.may_leave stored self.old
             → OnOk result (PersistsCalls D.Disk.seen D.Disk.may_leave (accepted_by self.old) self.new) }

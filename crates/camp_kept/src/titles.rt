@@ -1,4 +1,4 @@
-//! The first text of a store, which says the limits of its repository.
+//! The first text of a store, which contains the limits of its repository.
 ghost use Rattle.std.specs.Prelude.{◌≡◌, ◌↔◌, ◌∷◌, Some, codes, map, IfErr, IfOk, IsTrue, List, ℕ};
 ghost use Rattle.camp_kept.specs.Faults.{IsNoDiskFault, RefusesFile};
 ghost use Rattle.camp_kept.specs.Titles.{AreAsWanted, CanBeLimits, SaysLimits, is_default, limits_among, new_limits, title_of, title_with};
@@ -31,7 +31,7 @@ pub(crate) fn render_title(alloc: Global, limits: &Limits) -> Result<Vec<u8>, Al
     Ok(text)
 }
 
-/// Parses the first text of a store: the limits that it says; `None` if it is the first text of no store.
+/// Parses the first text of a store: returns its limits, or `None` if no store begins with this text.
 pub(crate) fn parse_title(alloc: Global, text: &[u8]) -> Result<Option<Limits>, AllocError>
     ensures exact { IfOk result (λ found. SaysLimits text.now found) }
 {
@@ -45,7 +45,7 @@ pub(crate) fn parse_title(alloc: Global, text: &[u8]) -> Result<Option<Limits>, 
     Ok(Some(limits))
 }
 
-// Returns the limits that a text says, if it is the first text of a store.
+// Returns the limits of a text that is the first of a store.
 fn limits_in(text: &[u8]) -> Option<Limits>
     ensures { (limits : Bounds) → CanBeLimits limits → title_of limits ≡ text.now → result ≡ Some limits }
 {
@@ -65,7 +65,7 @@ fn is_default_title(text: &[u8]) -> bool
     text == TITLE
 }
 
-// Returns the two numbers of a text, if it is a title that says limits.
+// Returns the two numbers of a title with limits; `None` for another text.
 fn numbers_in(text: &[u8]) -> Option<(u64, u64)>
     ensures { (limits : Bounds) → CanBeLimits limits → title_with limits ≡ text.now → result ≡ Some (limits.catches, limits.branches) }
 {
@@ -76,7 +76,7 @@ fn numbers_in(text: &[u8]) -> Option<(u64, u64)>
     numbers_among(words.as_slice())
 }
 
-// Returns the second and the fourth of four words, if both are numbers.
+// Returns the second and the fourth word of four, if both are numbers.
 fn numbers_among(words: &[&[u8]]) -> Option<(u64, u64)>
     ensures { result ≡ limits_among (map (λ word. word.now) words.now) }
 {
@@ -86,7 +86,7 @@ fn numbers_among(words: &[&[u8]]) -> Option<(u64, u64)>
     }
 }
 
-/// Returns the limits of a store, given its first text: they have to be the wanted ones, if any are wanted.
+/// Returns the limits of a store, given its first text. If limits are wanted, the store has to have them.
 pub(crate) fn limits_of(
     alloc: Global,
     title: &[u8],
@@ -109,7 +109,7 @@ pub(crate) fn limits_of(
     Ok(limits)
 }
 
-// True if these are the wanted limits, or none are wanted.
+// True if these are the wanted limits, or no limits are wanted.
 fn are_wanted(limits: &Limits, wanted: &Option<Limits>) -> bool
     ensures { IsTrue result ↔ AreAsWanted wanted.now limits.now }
 {
@@ -119,7 +119,7 @@ fn are_wanted(limits: &Limits, wanted: &Option<Limits>) -> bool
     }
 }
 
-/// Returns the limits of a store that is created while these are wanted.
+/// Returns the limits of a new store: the wanted ones, or else the default ones.
 pub(crate) fn new_limits(wanted: &Option<Limits>) -> Limits
     ensures exact { result ≡ new_limits wanted.now }
     ensures range { CanBeLimits result }

@@ -9,15 +9,15 @@ use Rattle.camp_talk.specs.Answers.{AnswersCommand, SessionState}
 use Rattle.camp_talk.specs.Cutting.{IsCommand, IsLeft}
 use Rattle.camp_talk.specs.Talks.{AnswersInOrder, AppendsSome, Exchange}
 
--- one more command was answered, or none: a whole one or, if the input has ended, what that leaves of one
+-- one more command was answered, or none: a complete one or, if the input has ended, what that leaves of one
 abbrev pub AnswersLast : Type 0 → SessionState → List Exchange → SessionState → Type 0
 AnswersLast Ended middle [] last = middle ≡ last
 AnswersLast Ended middle (exchange ∷ []) last =
     (IsCommand exchange.command ⊎ (IsLeft exchange.command × Ended)) × AnswersCommand middle exchange.command exchange.answer last
 AnswersLast Ended middle (exchange ∷ other ∷ others) last = ⊥
 
--- exactly these commands, and perhaps a last one, were read and answered one after the other; and these bytes of
--- their answers were written: all, or a prefix
+-- exactly these commands, and perhaps one more, were read and answered one after the other; and these bytes of their
+-- answers were written: all, or a prefix
 pub record AnswersWritten (remaining left old new : Option (List ℕ)) (first last : SessionState) : Type 0 where
   pub exchanges : List Exchange
   pub middle : SessionState
@@ -27,17 +27,17 @@ pub record AnswersWritten (remaining left old new : Option (List ℕ)) (first la
   pub reads : Consumes remaining left (flat_map (λ exchange. exchange.command) (exchanges ++ more))
   pub writes : AppendsSome old new (flat_map (λ exchange. exchange.answer) (exchanges ++ more))
 
--- the calls that are durable at least: before anything was answered those that were durable at first, and after that
--- all that were accepted until then
+-- the calls that have to be durable: before the first answer those that were durable at first, and then all that were
+-- accepted before the last answer
 abbrev pub durable_at_least : {Answered : Type 0} → List Answered → StoreContents → StoreContents → StoreContents
 durable_at_least [] durable accepted = durable
 durable_at_least (answered ∷ others) durable accepted = accepted
 
 -- two properties of a disk: what a read returns, and what a crash may leave
 module _ {D : Type 0} (seen : D → List ℕ) (may_leave : D → List ℕ → Type 0) where
-  -- where these first calls were durable: nothing but answers to commands was written; and whatever a crash leaves is
-  -- a store of a prefix of the accepted calls. It includes those that were durable and, once a command was answered,
-  -- all that were accepted up to the last of these commands.
+  -- given first calls that are durable: only answers to commands were written; and whatever a crash leaves is a store
+  -- of a prefix of the accepted calls. That prefix includes those that were durable and, once a command was answered,
+  -- all that were accepted up to the last answered command.
   pub record Promises (durable : StoreContents) (remaining old new : Option (List ℕ)) (first : SessionState) (kept : DurableRepository D) : Type 0 where
     pub left : Option (List ℕ)
     pub last : SessionState

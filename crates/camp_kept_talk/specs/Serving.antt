@@ -14,39 +14,39 @@ use Rattle.camp_talk.specs.Frames.{Serves, WritesNot}
 use Rattle.camp_talk.specs.declared.frames.FrameFault.{FrameFault}
 use Rattle.camp_talk.specs.declared.frames.FrameFault.TheVariants.{Cut, NoNumber, Talk, TooLarge}
 
--- a request was served into memory, with this result
+-- serving a request into memory had this result
 pub record ServesHeld (remaining rest : Option (List ℕ)) (before : Entries) (came : Result Bool FrameFault) (after : Entries) : Type 0 where
   pub frame : List ℕ
   pub serves : Serves remaining rest (Some []) (Some frame) before came after
 
--- the reported fault of serving into memory: if the answer can't be stored, it is out of memory
+-- the fault that is reported for serving into memory: if the answer can't be stored, out of memory
 abbrev pub frame_write_as_memory : FrameFault → FrameFault
 frame_write_as_memory NoNumber = NoNumber
 frame_write_as_memory TooLarge = TooLarge
 frame_write_as_memory Cut = Cut
 frame_write_as_memory (Talk why) = Talk (write_as_memory why)
 
--- serving a request had a fault before anything was written, and it is reported like this
+-- serving a request had a fault before anything was written, and it is reported as this
 pub record ServesNone (remaining rest : Option (List ℕ)) (before : Entries) (reported : FrameFault) (after : Entries) : Type 0 where
   pub why : FrameFault
   pub reported_is : reported ≡ frame_write_as_memory why
   pub held : ServesHeld remaining rest before (Err why) after
 
--- serving a request had this result, before its calls could not be persisted
+-- serving a request had this result, and then its calls could not be persisted
 pub record ServesUnkept (remaining rest : Option (List ℕ)) (before after : Entries) : Type 0 where
   pub came : Result Bool FrameFault
   pub held : ServesHeld remaining rest before came after
 
 module _ {D : Type 0} (seen : D → List ℕ) (may_leave : D → List ℕ → Type 0) where
-  -- whatever a crash leaves is a store of the calls that were durable before, or of all
+  -- whatever a crash leaves is a store of the calls that were durable before, or of all calls
   abbrev pub MayKeep : StoreContents → DurableRepository D → Type 0
   MayKeep durable new = (c : List ℕ) → may_leave (disk_in new) c → IsStoreOf durable c ⊎ IsStoreOf (accepted_by new) c
 
-  -- the service of one request over a repository of which these first calls are durable. Ok: it is served as over a
-  -- book, and all accepted calls are durable; or there is none, and the same calls are durable. Commit: it was served, or
-  -- had a fault, and nothing was written; the calls that were not durable before, and those that it asked, are durable
-  -- all or not at all. Frame: it had this fault, and nothing was written; all accepted calls are durable. Write: it was
-  -- answered, and all accepted calls are durable; a prefix of its answer was written.
+  -- serving one request over a repository of which these first calls are durable. Ok: it was served as over a book, and
+  -- all accepted calls are durable; or there was no request, and the same calls are durable. Commit: it was served, or
+  -- had a fault, and nothing was written; a crash leaves the calls that were durable before, or all. Frame: it had this
+  -- fault, and nothing was written; all accepted calls are durable. Write: it was answered, and all accepted calls are
+  -- durable; a prefix of its answer was written.
   abbrev pub ServesKept : (remaining rest before after : Option (List ℕ)) → StoreContents → DurableRepository D → Result Bool StoredFault → DurableRepository D → Type 0
   ServesKept remaining rest before after durable old (Ok true) new =
       Serves remaining rest before after old.book (Ok true) new.book × PersistsCalls seen may_leave (accepted_by new) new
@@ -60,8 +60,8 @@ module _ {D : Type 0} (seen : D → List ℕ) (may_leave : D → List ℕ → Ty
   ServesKept remaining rest before after durable old (Err (fault.Write error)) new =
       WritesNot remaining rest before after old.book new.book × PersistsCalls seen may_leave (accepted_by new) new
 
--- a framed conversation over a durable repository: that, a reader and a writer, and the number of requests that were
--- served
+-- a framed conversation over a durable repository: the repository, a reader and a writer, and the number of requests
+-- that were served
 abbrev pub kept_of : {D R W : Type 0} → FramedStore D R W → DurableRepository D
 kept_of it = it.kept
 
@@ -74,14 +74,13 @@ writer_of it = it.writer
 abbrev pub served_of : {D R W : Type 0} → FramedStore D R W → ℕ
 served_of it = it.served
 
--- the place of a service over a durable repository: the rest of the reader, the content of the writer, and the
--- repository
+-- the state of a service over a durable repository: the rest of the reader, what was written, and the repository
 pub record KeptCounter (D : Type 0) : Type 0 where
   pub left : Option (List ℕ)
   pub held : Option (List ℕ)
   pub kept : DurableRepository D
 
--- the service of one request, from one place to another, whichever first calls are durable
+-- serving one request, from one state to another, whichever first calls are durable
 abbrev pub ServesKeptAt : {D : Type 0} → (D → List ℕ) → (D → List ℕ → Type 0) → KeptCounter D → Result Bool StoredFault → KeptCounter D → Type 0
 ServesKeptAt seen may_leave from answer to =
     (durable : StoreContents) → AreFirstCalls durable from.kept → PersistsCalls seen may_leave durable from.kept

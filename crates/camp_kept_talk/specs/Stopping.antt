@@ -1,4 +1,4 @@
--- Commits that fail, and a repository after one that has failed at its disk.
+-- Commits that fail, and what is left of a repository after a disk call has failed.
 use Rattle.std.specs.Prelude.{◌≡◌, ℕ, false, List, Result, MatchResult}
 use Rattle.camp_kept.specs.Accepting.{StoreContents}
 use Rattle.camp_kept.specs.Faults.{IsCommitFault, ReportsDiskFault}
@@ -11,7 +11,7 @@ use Rattle.camp_kept_talk.specs.declared.faults.StoredFault.TheVariants as fault
 use Rattle.camp_store.specs.declared.faults.StoreFault.TheVariants as store_fault
 
 module _ {D : Type 0} (seen : D → List ℕ) (may_leave : D → List ℕ → Type 0) where
-  -- after a commit that has failed at the disk no other is possible; after any other failure the same calls are durable
+  -- after a failed commit the same calls are durable or, if the disk has failed, no further commit is possible
   abbrev pub LeavesDurable : PersistenceFault → StoreContents → DurableRepository D → Type 0
   LeavesDurable (kept_fault.Store (store_fault.Disk error)) durable new = may_commit new ≡ false
   LeavesDurable (kept_fault.Store store_fault.Memory) durable new = PersistsCalls seen may_leave durable new
@@ -27,22 +27,21 @@ module _ {D : Type 0} (seen : D → List ℕ) (may_leave : D → List ℕ → Ty
 abbrev pub stopped_fault : StoredFault
 stopped_fault = fault.Commit (kept_fault.Store store_fault.Failed)
 
--- a repository that commits no more is left so: its disk is not used, and nothing is written; the book may have more
--- calls
+-- a repository that commits no more stays so: its disk is not used, and nothing is written; the book may get more calls
 pub record StaysStopped {D W : Type 0} (old new : DurableRepository D) (before after : W) : Type 0 where
   pub unwritten : after ≡ before
   pub disk : disk_in new ≡ disk_in old
   pub known : durable_count_in new ≡ durable_count_in old
   pub stopped : may_commit new ≡ false
 
--- a fault of the store is one of a commit, and one of its disk only if a call of that has failed; any other fault is
--- reported only if none has
+-- a fault of the store comes from a commit; it is one of the disk only if a disk call has failed, and any other fault
+-- is reported only if none has
 abbrev pub ReportsStored : StoredFault → ℕ → ℕ → Type 0
 ReportsStored (fault.Commit why) old new = IsCommitFault why × ReportsDiskFault why old new
 ReportsStored (fault.Talk why) old new = new ≡ old
 ReportsStored (fault.Frame why) old new = new ≡ old
 ReportsStored (fault.Write error) old new = new ≡ old
 
--- Ok: no disk call has failed; a disk fault is reported only if one has
+-- after `Ok` no disk call has failed; a disk fault is reported only if one has
 abbrev pub CountsStored : {T : Type 0} → Result T StoredFault → ℕ → ℕ → Type 0
 CountsStored result old new = MatchResult result (λ _. new ≡ old) (λ why. ReportsStored why old new)

@@ -13,7 +13,7 @@ pub enum StoredFault {
     Commit(PersistenceFault),
     /// No more commands could be read, or memory ran out for an answer. All accepted calls are persisted.
     Talk(TalkFault),
-    /// A request could not be read, or not be answered whole. All accepted calls are persisted.
+    /// A request could not be read, or not be answered completely. All accepted calls are persisted.
     Frame(FrameFault),
     /// The writer failed, with this error. All accepted calls are persisted, and a prefix of the answers was
     /// written.

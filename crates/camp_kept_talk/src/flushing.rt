@@ -12,8 +12,8 @@ use camp_talk::write_answer;
 use std::alloc::Global;
 use std::io::Write;
 
-/// Persists all accepted calls, and then writes the buffered answers, and flushes them. If the calls are not
-/// persisted, nothing is written.
+/// Persists all accepted calls, then writes the buffered answers and flushes. If the calls can't be persisted, nothing
+/// is written.
 #[tactic(auto, using(crate::proofs::Leading::flushes_so))]
 pub(crate) fn commit_and_flush<D: Disk, W: Write>(
     alloc: Global,

@@ -13,9 +13,9 @@ use camp_talk::{Dialogue, FrameFault, TalkFault, serve};
 use std::alloc::Global;
 use std::io::{BufRead, Write};
 
-/// Reads a request in its frame and answers it; persists all accepted calls; and then writes the frame of the
-/// answer. True if there may be more; else the input has ended. `served` counts the requests that were
-/// served. If a commit has failed at the disk before, no request is answered.
+/// Reads a request in its frame and answers it, persists all accepted calls, and then writes the frame of the answer.
+/// True if there may be more, false if the input has ended. `served` counts the requests that were served. If a commit
+/// has failed at the disk before, no request is answered.
 pub fn serve_kept<D: Disk, R: BufRead, W: Write>(
     alloc: Global,
     kept: &mut DurableRepository<D>,
@@ -46,8 +46,7 @@ pub fn serve_kept<D: Disk, R: BufRead, W: Write>(
     }
 }
 
-// Returns why a request could not be served whose answer goes to memory: if it can't be stored, out of
-// memory.
+// Returns why a request whose answer goes to memory could not be served: if the answer can't be stored, out of memory.
 fn frame_write_as_memory(why: FrameFault) -> FrameFault
     ensures { result ≡ frame_write_as_memory why }
 {
@@ -57,7 +56,7 @@ fn frame_write_as_memory(why: FrameFault) -> FrameFault
     }
 }
 
-/// Requests in frames: they are answered over a durable repository, one after the other.
+/// A conversation in frames over a durable repository: its requests are answered one after the other.
 #[derive(Drop)]
 pub struct FramedStore<D: Disk, R, W> {
     alloc: Global,

@@ -1,5 +1,5 @@
-//! Conversations over a repository that is persisted in a file: no answer is written before the calls that
-//! were accepted until then are durable.
+//! Conversations over a repository that is persisted in a file: an answer is written only after all calls accepted
+//! before it are durable.
 #![tactic(auto)]
 
 mod faults;

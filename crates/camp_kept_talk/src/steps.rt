@@ -1,4 +1,4 @@
-//! Steps of a conversation whose answers are buffered.
+//! Steps of a conversation with buffered answers.
 ghost use Rattle.std.specs.Prelude.{◌≡◌, ◌⊎◌, [], true, false, IfErr, IfOk, List, MatchResult, OnOk, Option, ℕ};
 ghost use Rattle.std.specs.Io.KnownBytes.{Appends, Keeps};
 ghost use Rattle.camp_kept.specs.Accepting.{StoreContents};
@@ -19,7 +19,7 @@ use std::io::{BufRead, Write};
 /// The most calls that are accepted before they are persisted.
 const MAX_CALLS: usize = 256;
 
-/// Bytes of buffered answers from which they are flushed before the next command.
+/// The number of bytes of buffered answers from which on they are flushed before the next command.
 const MAX_ANSWERS: usize = 1 << 20;
 
 /// The buffer of a conversation.
@@ -48,8 +48,8 @@ impl AnswerBuffer {
     }
 }
 
-/// Takes a step: reads a command, executes it on the book, and buffers its answer. True if there may be more.
-/// If no command is ready, or much is buffered, all of it is flushed first; also at the end of the input.
+/// Takes a step: reads a command, executes it on the book, and buffers its answer. True if there may be more. All
+/// answers are flushed before that if no command is ready or much is buffered, and at the end of the input.
 pub fn take_stored_step<D: Disk, R: BufRead, W: Write>(
     alloc: Global,
     kept: &mut DurableRepository<D>,
@@ -64,11 +64,10 @@ pub fn take_stored_step<D: Disk, R: BufRead, W: Write>(
         → AfterStep D.Disk.seen D.Disk.may_leave durable remaining (R.remaining reader.new) old (W.contents writer.new) buffered.new.answers.items first
         (record { history = kept.new.book; lines = buffered.new.lines; diagnostic = buffered.new.diagnostic }) result kept.new }
     ensures counts { IfOk result (λ more. more ≡ true → HasGrown buffered.old.lines buffered.new.lines) }
-    // It reads no more than a command has; and if the calls can't be persisted, it writes all buffered
-    // answers, or nothing.
+    // At most one command is read. If the calls can't be persisted, all buffered answers are written, or none.
     ensures within { ReadsWithin (R.remaining reader.old) (R.remaining reader.new) }
     ensures whole { IfErr result (WritesAllOrNone buffered.old.answers.items (W.contents writer.old) (W.contents writer.new)) }
-    // If no command is ready, the buffered answers are written.
+    // If no command is ready, all buffered answers are written before the step waits for one.
     ensures flushes { is_ready ≡ false → IfOk result (λ more. more ≡ true → Appends (W.contents writer.old) (W.contents writer.new) buffered.old.answers.items) }
     // If a commit has failed at the disk before, nothing is written.
     ensures stopped { may_commit kept.old ≡ false → StaysStopped kept.old kept.new writer.old writer.new
@@ -80,7 +79,7 @@ pub fn take_stored_step<D: Disk, R: BufRead, W: Write>(
     read_and_buffer(alloc, kept, buffered, reader, writer)
 }
 
-// Flushes the buffered answers, if no command is ready or many are pending.
+// Flushes the buffered answers if no command is ready or much is buffered.
 fn flush_first<D: Disk, W: Write>(
     alloc: Global,
     kept: &mut DurableRepository<D>,
@@ -108,14 +107,14 @@ fn flush_first<D: Disk, W: Write>(
     commit_and_flush(alloc, kept, &mut buffered.answers, writer)
 }
 
-// True if the buffered answers may wait: a command is ready, and not many are pending.
+// True if the buffered answers may wait: a command is ready, and little is buffered.
 fn may_wait<D: Disk>(kept: &DurableRepository<D>, buffered: &AnswerBuffer, is_ready: bool) -> bool
     ensures { is_ready ≡ false → result ≡ false }
 {
     is_ready && kept.waiting() < MAX_CALLS && buffered.answers.len() < MAX_ANSWERS
 }
 
-// Reads a command and executes it. At the end of the input everything is flushed.
+// Reads a command and executes it. Flushes everything at the end of the input.
 #[tactic(auto, using(crate::proofs::Writing::step_reads_within))]
 fn read_and_buffer<D: Disk, R: BufRead, W: Write>(
     alloc: Global,
@@ -159,7 +158,7 @@ fn read_and_buffer<D: Disk, R: BufRead, W: Write>(
     }
 }
 
-// Returns why a step failed whose answer is buffered: if it can't be buffered, out of memory.
+// Returns why a step failed whose answer goes to memory: if the answer can't be buffered, out of memory.
 fn write_as_memory(why: TalkFault) -> TalkFault
     ensures { result ≡ write_as_memory why }
 {

@@ -14,11 +14,10 @@ use camp_kept::{Disk, DurableRepository};
 use std::alloc::Global;
 use std::io::{BufReader, Read, Write};
 
-/// Answers the commands of a reader, one after the other, until the input ends. Answers are buffered until
-/// all calls that were accepted before them are persisted: before more has to be read for the next command,
-/// after 256 accepted calls or a mebibyte of answers, and at the end. Calls that the book had accepted before
-/// are persisted too. If a commit has failed at the disk before, nothing is written, and the fault is that of
-/// a commit.
+/// Answers the commands of a reader, one after the other, until the input ends. Answers are buffered until all calls
+/// that were accepted before them are persisted: before it has to wait for the next command, after 256 accepted calls
+/// or 1,048,576 bytes of answers, and at the end. Calls that the book had accepted before are persisted too. If a
+/// commit has failed at the disk before, nothing is written, and the fault is that of a commit.
 pub fn talk_kept<D: Disk, R: Read, W: Write>(
     alloc: Global,
     kept: &mut DurableRepository<D>,

@@ -17,7 +17,7 @@ EachTagCountsOnce Call =
     (log : List (Option (Tagged Call))) (seat index : ℕ) (entry : Tagged Call)
     → slice_get (of_seat seat (counted_entries log)) index ≡ Some entry → entry.number ≡ index + 1
 
--- there is no reply, for any reason
+-- every reason for no reply is allowed
 abbrev pub AnyReason : {Call : Type 0} → Request Call → NoReply → Type 0
 AnyReason request why = Unit {0}
 
@@ -26,13 +26,13 @@ module _ {State Call Reply : Type 0} (object : Sequential State Call Reply) wher
   abbrev pub NothingIsRead : Type 0
   NothingIsRead = (reading : Reading State Call) → reading.index ≡ 0 → reading.history ≡ [] → reading.numbers ≡ [] → IsReadingOf object [] reading
 
-  -- a reader of a log that reads the entry after it is a reader of the longer log
+  -- a reader of a log, after it has read the entry that comes next, is a reader of the longer log
   abbrev pub ReadsOn : Type 0
   ReadsOn =
       (log : List (Option (Tagged Call))) (old new : Reading State Call) (entry : Tagged Call) (replies : List Reply)
       → IsReadingOf object log old → ReadsEntry object old entry replies new → IsReadingOf object (log ++ Some entry ∷ []) new
 
-  -- nothing that is foreign to a reader of a log can be read after it
+  -- what is foreign to a reader of a log cannot be read after that log
   abbrev pub StopsAtForeign : Type 0
   StopsAtForeign =
       (log : List (Option (Tagged Call))) (reading : Reading State Call) (found : Option (Tagged Call))
@@ -51,31 +51,31 @@ module _ {State Call Reply : Type 0} (object : Sequential State Call Reply) wher
       → IsBeginning first log → IsBeginning second log → IsReadingOf object first one → IsReadingOf object second two
       → IsBeginning one.history two.history ⊎ IsBeginning two.history one.history
 
-  -- of the calls of a seat the history gets those that were accepted, each once, in the order of the requests
+  -- the history gets those calls of a seat that were accepted, each once, in the order of the requests
   abbrev pub AcceptedOnce : Type 0
   AcceptedOnce =
       (seat : ℕ) (seen : List (ℕ × Call)) (told : List (AnsweredRequest Call Reply)) (now : List (ℕ × Call))
       → AreAnsweredFrom object AnyReason seat seen told now → own seat now ≡ own seat seen ++ accepted_in object told
 
-  -- two advances of a member are one advance, with the answers of both
+  -- two advances of a member one after the other are one advance, with the answers of both
   abbrev pub AdvancesOn : Type 0
   AdvancesOn =
       (one two three : Membership State Call Reply)
       → IsLegal object two.reading.history → MemberAdvances object AnyReason one two → MemberAdvances object AnyReason two three → MemberAdvances object AnyReason one three
 
-  -- an advance with fewer reasons for no reply is one with any reason
+  -- an advance in which fewer reasons for no reply are allowed is one in which more are
   pub record AdvancesAnyhow : Type 0 where
     pub replies : (old new : Membership State Call Reply) → MemberAdvances object (λ _ _. ⊥) old new → MemberAdvances object AnyReason old new
     pub stopped : (member old new : Membership State Call Reply) → MemberAdvances object (IsStopped object member) old new → MemberAdvances object AnyReason old new
     pub one_reason : (reason : NoReply) (old new : Membership State Call Reply) → MemberAdvances object (λ _ why. why ≡ reason) old new → MemberAdvances object AnyReason old new
 
-  -- what a member has read of a log, with what it finds after it, is what it has read then
+  -- what a member has read of a log and what it then finds is what it has read afterwards
   abbrev pub FindsOn : Type 0
   FindsOn =
       (log : List (Option (Tagged Call))) (old new : Membership State Call Reply) (index : ℕ) (found : Option (Tagged Call))
       → IsReadingOf object log old.reading → FindsAt object old index found (Ok tt) new
       → ((index < length log) × (new ≡ old)) ⊎ ((index ≡ length log) × IsReadingOf object (log ++ found ∷ []) new.reading)
 
--- no answer of a member says that it is busy
+-- no answer of a member is Busy
 abbrev pub NobodyIsBusy : Type 0 → Type 0
 NobodyIsBusy Reply = (answer : Result Reply NoReply) → IsNotBusy (as_answer answer)

@@ -1,4 +1,4 @@
--- A member of a log: one who reads it, and asks calls over it.
+-- A member of a log: one process that reads it and asks calls over it.
 use Rattle.std.specs.Prelude.{◌^◌, ℕ, Bool, true, false, List, [], ◌++◌, Result, Ok, Err, map, take, drop}
 use Rattle.camp_object.specs.Asking.{Caller}
 use Rattle.camp_object.specs.declared.faults.Fault.{Fault}
@@ -7,8 +7,9 @@ use Rattle.camp_member.specs.Readings.{Reading}
 use Rattle.camp_member.specs.declared.requests.Request.{Request}
 use Rattle.camp_member.specs.declared.requests.NoReply.{NoReply}
 
--- a member: its seat, what it has read of the log, whether it has stopped to read, the requests that wait for an answer in
--- order, how many of these are in the entry that it appends, and the answers that nobody took, each with the number of its request
+-- a member: its seat, what it has read of the log, whether it has stopped reading, the waiting requests in order, how
+-- many of these are in the entry that it appends, and the answers that nobody has taken, each with the number of its
+-- request
 pub record Membership (State Call Reply : Type 0) : Type 0 where
   pub seat : ℕ
   pub reading : Reading State Call
@@ -17,7 +18,7 @@ pub record Membership (State Call Reply : Type 0) : Type 0 where
   pub sent : ℕ
   pub answers : List (ℕ × Result Reply NoReply)
 
--- a member that was asked nothing and has read nothing
+-- a new member, which was asked nothing and has read nothing
 abbrev pub new_member : {State Call Reply : Type 0} → State → ℕ → Membership State Call Reply
 new_member first seat = record {
   seat = seat;
@@ -28,11 +29,11 @@ new_member first seat = record {
   answers = [];
 }
 
--- who asks over a log: its accepted calls are without number, and none of its calls is lost to another's
+-- a member as a caller: its accepted calls have no limit, and its calls lose no exchanges
 abbrev pub member_caller : ℕ → Caller
 member_caller seat = record { seat = seat; tries = 0; per_seat = 2 ^ 64; alone = false }
 
--- an answer as one of an object: without a reply nothing is added, as if out of memory
+-- an answer of a member as an answer of an object: no reply adds no call, like out of memory
 abbrev pub as_answer : {Reply : Type 0} → Result Reply NoReply → Result Reply Fault
 as_answer (Ok reply) = Ok reply
 as_answer (Err why) = Err object_fault.Memory
@@ -42,15 +43,15 @@ abbrev pub calls_asked : {Call : Type 0} → List (Request Call) → List Call
 calls_asked requests = map (λ request. request.call) requests
 
 module _ {State Call Reply : Type 0} where
-  -- the calls in the entry that a member appends
+  -- the calls in the entry under way
   abbrev pub under_way : Membership State Call Reply → List Call
   under_way member = calls_asked (take member.sent member.waiting)
 
-  -- the member that reads no further: what it appended waits like other requests
+  -- the member after it has stopped reading: the requests of its entry wait like all others
   abbrev pub stopped : Membership State Call Reply → Membership State Call Reply
   stopped member = record member { is_stopped = true; sent = 0 }
 
-  -- the member where none of the entry that it appends gets a reply
+  -- the member after none of the requests of its entry got a reply
   abbrev pub without_reply : NoReply → Membership State Call Reply → Membership State Call Reply
   without_reply why member = record member {
     waiting = drop member.sent member.waiting;

@@ -1,4 +1,4 @@
--- An object that is asked calls with notes is lawful.
+-- The object that is asked calls with notes obeys the laws of objects.
 use Rattle.camp_object.specs.Objects.{Sequential, IsLawfulObject}
 use Rattle.camp_member.specs.Notes.{noting}
 

@@ -7,7 +7,7 @@ pub record WithNote (Call : Type 0) : Type 0 where
   pub note : List ℕ
   pub call : Call
 
--- the object that is asked calls with notes: it decides the calls
+-- an object that is asked calls with notes; it ignores the notes
 abbrev pub noting : {State Call Reply : Type 0} → Sequential State Call Reply → Sequential State (WithNote Call) Reply
 noting object = record {
   initial = object.initial;

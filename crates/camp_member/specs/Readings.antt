@@ -7,22 +7,22 @@ use Rattle.camp_member.specs.Logs.{lawful_part}
 use Rattle.camp_member.specs.declared.faults.ReadFault.{ReadFault}
 use Rattle.camp_member.specs.declared.faults.ReadFault.TheVariants.{Memory, OutOfOrder, Foreign}
 
--- a reader: the state that its history begins with, how many entries it has read, its history, and the table of the number
--- of the last entry of each seat that counted
+-- a reader: the initial state of its history, how many entries it has read, its history, and for each seat the number
+-- of its last entry that counted
 pub record Reading (State Call : Type 0) : Type 0 where
   pub first : State
   pub index : ℕ
   pub history : List (ℕ × Call)
   pub numbers : List (ℕ × ℕ)
 
--- why nothing was read at an index
+-- why nothing was read at this index
 abbrev pub IsReadFault : {State Call : Type 0} → Reading State Call → ℕ → Option (Tagged Call) → ReadFault → Type 0
 IsReadFault old index found Memory = Unit {0}
 IsReadFault old index found (OutOfOrder next) = (next ≡ old.index) × (index ≢ old.index)
 IsReadFault old index found (Foreign at) = (at ≡ old.index) × (at ≡ index) × IsForeign (number_in old.numbers) found
 
 module _ {State Call Reply : Type 0} (object : Sequential State Call Reply) where
-  -- what a reader has after reading a log
+  -- what a reader has after it has read a log
   pub record IsReadingOf (log : List (Option (Tagged Call))) (reading : Reading State Call) : Type 0 where
     pub readable : IsReadable log
     pub index : reading.index ≡ length log
@@ -35,14 +35,14 @@ module _ {State Call Reply : Type 0} (object : Sequential State Call Reply) wher
     pub decided : AreDecided object old.history entry.seat entry.calls replies new.history
     pub last : (seat : ℕ) → number_in new.numbers seat ≡ (if seat == entry.seat then entry.number else number_in old.numbers seat)
 
-  -- an entry whose tag counted before is passed over
+  -- an entry whose tag counted before is skipped
   pub record PassesOver (old : Reading State Call) (entry : Tagged Call) (replies : List Reply) (new : Reading State Call) : Type 0 where
     pub repeated : IsRepeated (number_in old.numbers) entry
     pub none : replies ≡ []
     pub history : new.history ≡ old.history
     pub numbers : new.numbers ≡ old.numbers
 
-  -- what stands next in the log is read
+  -- what comes next in the log is read
   pub record ReadsEntry (old : Reading State Call) (entry : Tagged Call) (replies : List Reply) (new : Reading State Call) : Type 0 where
     pub first : new.first ≡ old.first
     pub index : new.index ≡ old.index + 1

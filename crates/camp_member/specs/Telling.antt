@@ -7,7 +7,7 @@ use Rattle.camp_member.specs.Members.{Membership, as_answer, member_caller}
 use Rattle.camp_member.specs.declared.requests.Request.{Request}
 use Rattle.camp_member.specs.declared.requests.NoReply.{NoReply}
 
--- a request that was answered: the answer, and the history at which it was given
+-- an answered request: the answer, and the history at which it was given
 pub record AnsweredRequest (Call Reply : Type 0) : Type 0 where
   pub request : Request Call
   pub answer : Result Reply NoReply
@@ -20,14 +20,15 @@ abbrev pub answers_in : {Call Reply : Type 0} → List (AnsweredRequest Call Rep
 answers_in told = map (λ one. (one.request.id, one.answer)) told
 
 module _ {State Call Reply : Type 0} (object : Sequential State Call Reply) where
-  -- a request of a seat is answered after this history: the answer says what `Ask` says; a reply holds at least as many
-  -- accepted calls as the request waits for, and without a reply there is such a reason for it
+  -- a request of a seat is answered at this history, and its answer is right as `Ask` says. The history has at least as
+  -- many calls as the request waits for, or there is no reply, for an allowed reason
   pub record IsAnsweredAt (may : Request Call → NoReply → Type 0) (seat : ℕ) (seen : List (ℕ × Call)) (one : AnsweredRequest Call Reply) : Type 0 where
     pub asks : Ask object (member_caller seat) seen one.request.call (as_answer one.answer) one.history
     pub at_least : IfOk one.answer (λ _. one.request.at_least ≤ length one.history)
     pub why : IfErr one.answer (may one.request)
 
-  -- requests of a seat are answered one after another, from one history to another; no other call of the seat comes in between
+  -- requests of a seat are answered one after another, at histories that lead from the first to the last; no other call
+  -- of the seat comes between
   abbrev pub AreAnsweredFrom : (Request Call → NoReply → Type 0) → ℕ → List (ℕ × Call) → List (AnsweredRequest Call Reply) → List (ℕ × Call) → Type 0
   AreAnsweredFrom may seat seen [] now = IsBeginning seen now × (own seat now ≡ own seat seen)
   AreAnsweredFrom may seat seen (one ∷ more) now = IsAnsweredAt may seat seen one × AreAnsweredFrom may seat one.history more now
@@ -37,12 +38,12 @@ module _ {State Call Reply : Type 0} (object : Sequential State Call Reply) wher
   is_done (Ok reply) = is_some (object.done_at reply)
   is_done (Err why) = false
 
-  -- the calls among the answered requests that were accepted
+  -- the calls of those answered requests that were accepted
   abbrev pub accepted_in : List (AnsweredRequest Call Reply) → List Call
   accepted_in [] = []
   accepted_in (one ∷ more) = if is_done one.answer then one.request.call ∷ accepted_in more else accepted_in more
 
-  -- a member advances: it answers the first of its requests in their order, each once
+  -- a member advances: it answers its first requests, in order, each once
   pub record MemberAdvances (may : Request Call → NoReply → Type 0) (old new : Membership State Call Reply) : Type 0 where
     pub told : List (AnsweredRequest Call Reply)
     pub seat : new.seat ≡ old.seat

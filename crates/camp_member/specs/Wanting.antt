@@ -1,4 +1,4 @@
--- What a member does with what it is asked, and with what it finds in the log.
+-- What a member does with requests, and with what it finds in the log.
 use Rattle.std.specs.Prelude.{◌≡◌, ◌≢◌, ◌<◌, ◌≤◌, ◌+◌, ◌⊎◌, ℕ, Bool, true, false, List, [], ◌∷◌, ◌++◌, length, take, Result, Ok, Err, Option, None, Some, IfSome, IsSome}
 use Rattle.std.specs.List.{AllByRecursion}
 use Rattle.camp_object.specs.Objects.{Sequential}
@@ -14,7 +14,7 @@ use Rattle.camp_member.specs.declared.requests.Request.{Request}
 use Rattle.camp_member.specs.declared.requests.Want.{Want}
 use Rattle.camp_member.specs.declared.requests.Want.TheVariants as want
 
--- the first waiting requests are given these answers, in order
+-- the first waiting requests get these answers, in order
 abbrev pub given : {Call Reply : Type 0} → List (ℕ × Result Reply NoReply) → List (Request Call) → List Reply → List (ℕ × Result Reply NoReply) × List (Request Call)
 given answers waiting [] = (answers, waiting)
 given answers [] (reply ∷ replies) = (answers, [])
@@ -25,13 +25,13 @@ module _ {State Call Reply : Type 0} (object : Sequential State Call Reply) wher
   abbrev pub IsWaiting : List (ℕ × Call) → Request Call → Type 0
   IsWaiting history request = length history < request.at_least
 
-  -- a member gives no reply only where it has stopped, and only to a request that waits for more accepted calls, or whose call
-  -- is accepted at what was read: so any question is answered at what was read
+  -- a member gives no reply only when it has stopped, and only to a request that waits for more accepted calls or whose
+  -- call would be accepted; so every question is answered at what was read
   abbrev pub IsStopped : Membership State Call Reply → Request Call → NoReply → Type 0
   IsStopped member request why =
       (why ≡ Stopped) × (member.is_stopped ≡ true) × (IsWaiting member.reading.history request ⊎ IsAccepted object member.reading.history request.call)
 
-  -- the answer to a request at what was read; none if it has to wait for more, or to be appended
+  -- the answer to a request at what was read; none if the request has to wait for more calls, or to be appended
   abbrev pub IsAnswerTo : Membership State Call Reply → Request Call → Option (Result Reply NoReply) → Type 0
   IsAnswerTo member request None =
       (member.is_stopped ≡ false) × (IsWaiting member.reading.history request ⊎ IsAccepted object member.reading.history request.call)
@@ -44,15 +44,15 @@ module _ {State Call Reply : Type 0} (object : Sequential State Call Reply) wher
   IsAtRest member =
       member.sent ≡ 0 → (request : Request Call) (rest : List (Request Call)) → member.waiting ≡ request ∷ rest → IsAnswerTo member request None
 
-  -- requests that one entry may have: some, at most 256, that write and wait for no more than was read
+  -- requests for one entry: 1 to 256 of them, which write and wait for no more calls than were read
   pub record FitsEntry (history : List (ℕ × Call)) (requests : List (Request Call)) : Type 0 where
     pub some : 0 < length requests
     pub few : length requests ≤ most_calls_of_entry
     pub writing : AllByRecursion (λ request. object.is_writing request.call ≡ true) requests
     pub ready : AllByRecursion (λ request. request.at_least ≤ length history) requests
 
-  -- what a member wants of its log: nothing, if no request waits; to read on, if the first request waits for more accepted
-  -- calls; to append the entry with the next number of its seat
+  -- what a member wants of its log: nothing if no request waits; to read on if the first request waits for more
+  -- accepted calls; else to append the entry with the next number of its seat
   abbrev pub WantsOfLog : Want Call → Membership State Call Reply → Type 0
   WantsOfLog want.Nothing member = (member.waiting ≡ []) × (member.sent ≡ 0)
   WantsOfLog (want.Read from) member =
@@ -62,7 +62,7 @@ module _ {State Call Reply : Type 0} (object : Sequential State Call Reply) wher
       (entry.seat ≡ member.seat) × (entry.number ≡ number_in member.reading.numbers member.seat + 1)
       × (entry.calls ≡ under_way member) × FitsEntry member.reading.history (take member.sent member.waiting)
 
-  -- a member begins to append only if it has not stopped, and only if its first request is accepted at what was read
+  -- a member begins to append only if it has not stopped and its first request's call is accepted at what was read
   abbrev pub IsNeeded : Want Call → Membership State Call Reply → Type 0
   IsNeeded want.Nothing member = Unit {0}
   IsNeeded (want.Read from) member = Unit {0}
@@ -74,36 +74,36 @@ module _ {State Call Reply : Type 0} (object : Sequential State Call Reply) wher
   abbrev pub IsOwn : Membership State Call Reply → Tagged Call → Type 0
   IsOwn member entry = (entry.seat ≡ member.seat) × (number_in member.reading.numbers member.seat < entry.number)
 
-  -- what is found is such an entry
+  -- an entry was found that is of the member's seat and has a new number
   abbrev pub HasOwn : Membership State Call Reply → Option (Tagged Call) → Type 0
   HasOwn member None = ⊥
   HasOwn member (Some entry) = IsOwn member entry
 
-  -- an entry of the member's seat with a new number that it does not append: another process has its seat
+  -- an entry of the member's seat with a new number, which the member does not append: another process uses its seat
   abbrev pub IsAlien : Membership State Call Reply → Option (Tagged Call) → Type 0
   IsAlien member None = ⊥
   IsAlien member (Some entry) = IsOwn member entry × (entry.calls ≢ under_way member)
 
-  -- whether what is found is alien; if not, an entry of the member's seat with a new number is the one that it appends
+  -- whether what was found is an entry of another process with the member's seat
   abbrev pub TellsAlien : Membership State Call Reply → Option (Tagged Call) → Bool → Type 0
   TellsAlien member found true = IsAlien member found
   TellsAlien member found false = HasOwn member found → IfSome found (λ entry. entry.calls ≡ under_way member)
 
-  -- the entry that the member appends is found: its requests get the replies of where it stands
+  -- the entry that the member appends is found: its requests get the replies that its calls get there
   pub record FindsOwn (old : Membership State Call Reply) (entry : Tagged Call) (replies : List Reply) (new : Membership State Call Reply) : Type 0 where
     pub own : IsOwn old entry
     pub calls : entry.calls ≡ under_way old
     pub given : (new.answers, new.waiting) ≡ given old.answers old.waiting replies
     pub sent : new.sent ≡ 0
 
-  -- another entry is found
+  -- an entry of another member is found, or a repetition
   pub record FindsOther (old : Membership State Call Reply) (entry : Tagged Call) (new : Membership State Call Reply) : Type 0 where
     pub other : ¬ (IsOwn old entry)
     pub answers : new.answers ≡ old.answers
     pub waiting : new.waiting ≡ old.waiting
     pub sent : new.sent ≡ old.sent
 
-  -- an entry is read where it stands
+  -- an entry is read at its index of the log
   pub record FindsEntry (old : Membership State Call Reply) (entry : Tagged Call) (new : Membership State Call Reply) : Type 0 where
     pub replies : List Reply
     pub reads : ReadsEntry object old.reading entry replies new.reading
@@ -111,13 +111,13 @@ module _ {State Call Reply : Type 0} (object : Sequential State Call Reply) wher
     pub is_stopped : new.is_stopped ≡ old.is_stopped
     pub effect : FindsOwn old entry replies new ⊎ FindsOther old entry new
 
-  -- a foreign entry stops a member, and no other fault changes it
+  -- what is foreign stops a member; after any other fault it is unchanged
   abbrev pub StopsWhenForeign : ReadFault → Membership State Call Reply → Membership State Call Reply → Type 0
   StopsWhenForeign Memory old new = new ≡ old
   StopsWhenForeign (OutOfOrder next) old new = new ≡ old
   StopsWhenForeign (Foreign at) old new = new ≡ stopped old
 
-  -- what stands at an index of the log is found: it was read before, or is read, or it stops the member
+  -- what is at an index of the log is found: it was read before, or is read now, or stops the member
   abbrev pub FindsAt : Membership State Call Reply → ℕ → Option (Tagged Call) → Result (Unit {0}) ReadFault → Membership State Call Reply → Type 0
   FindsAt old index found (Ok done) new =
       ((index < old.reading.index) × (new ≡ old))
@@ -128,7 +128,8 @@ module _ {State Call Reply : Type 0} (object : Sequential State Call Reply) wher
       (at ≡ old.reading.index) × (at ≡ index) × (new ≡ stopped old)
       × ((old.is_stopped ≡ true) ⊎ IsForeign (number_in old.reading.numbers) found ⊎ IsAlien old found)
 
-  -- a log ends at an index where a member has read all of it and its first request waits for more: the request gets no reply
+  -- a log ends at an index up to which a member has read it, and its first request waits for more: the request gets no
+  -- reply
   pub record WaitsAtEnd (old : Membership State Call Reply) (index : ℕ) (request : Request Call) (rest : List (Request Call)) : Type 0 where
     pub at : index ≡ old.reading.index
     pub none_sent : old.sent ≡ 0

@@ -1,4 +1,4 @@
-//! Decides the calls of an entry before anything of them is kept.
+//! Decides the calls of an entry before any of them is added to the history.
 ghost use Rattle.std.specs.Prelude.{◌≡◌, ◌+◌, OnOk, IfOk, IfSome};
 ghost use Rattle.std.specs.Option.{unwrap_or};
 ghost use Rattle.camp_object.specs.Objects.{begun};
@@ -7,8 +7,8 @@ use camp_object::{Decided, Object};
 use std::alloc::{AllocError, Global};
 use std::marker::Model;
 
-/// The decisions on calls of one seat: the state after them if one was accepted, the accepted calls, and the
-/// reply to each call.
+/// The decisions on calls of one seat: the state after the accepted calls if there are any, these calls, and the reply
+/// to each call.
 #[derive(Drop)]
 pub(crate) struct Draft<State: Object> {
     pub(crate) next: Option<State>,
@@ -78,7 +78,7 @@ impl<State: Object> Draft<State> {
     }
 }
 
-// Returns the position of the call after so many.
+// Returns the position after this number of calls.
 fn position_after(before: u64, more: usize) -> Option<u64>
     ensures { IfSome result (λ position. position ≡ before + more + 1) }
 {

@@ -6,7 +6,7 @@ use std::marker::Model;
 /// The most calls of an entry.
 pub const MAX_CALLS: usize = 256;
 
-/// An entry of a log: the calls that a seat appended at once, under a tag, which is the seat and a number.
+/// An entry of a log: calls that a seat appended at once, under a tag, which is the seat and a number.
 #[derive(Drop)]
 pub struct Entry<Call: Drop> {
     seat: u128,

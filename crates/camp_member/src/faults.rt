@@ -5,7 +5,7 @@ ghost use Rattle.camp_member.specs.declared.faults.ReadFault.TheVariants as faul
 use std::alloc::{AllocError, AllocFailed};
 use thiserror::Error;
 
-/// Why an entry of a log was not read. The reader is then as it was.
+/// Why an entry of a log was not read. The reader is then unchanged.
 #[derive(Clone, Copy, PartialEq, Eq, Debug, Error)]
 pub enum ReadFault {
     #[error("out of memory")]
@@ -13,7 +13,7 @@ pub enum ReadFault {
     /// Another entry comes next: the one at this index.
     #[error("the next entry is the one at index {index}")]
     OutOfOrder { index: usize },
-    /// What stands at the index is no entry of a member, or skips a number of its seat.
+    /// At this index there is no entry of a member, or its number is not the next one of its seat.
     #[error("no entry of a member stands at index {index}")]
     Foreign { index: usize },
 }

@@ -11,10 +11,9 @@ use camp_object::Object;
 use std::alloc::Global;
 
 impl<State: Object> Member<State> {
-    /// ReadsEntry what was found at an index of the log, in order: an entry, or `None` if it is none. What was read
-    /// before is passed over. The requests of the entry under way are answered where it stands. What is
-    /// foreign, or an entry of another process with this seat, stops the member. If memory runs out, the
-    /// member is as it was.
+    /// Reads what was found at an index of the log, in order: an entry, or `None` if there is none in it. Skips what
+    /// was read before. Answers the requests of the entry under way if it is this one. What is foreign, or an entry of
+    /// another process with this seat, stops the member. If memory runs out, the member is unchanged.
     pub fn found(
         &mut self,
         alloc: Global,
@@ -30,7 +29,7 @@ impl<State: Object> Member<State> {
         result
     }
 
-    // ReadsEntry what was found at an index.
+    // Reads what was found at an index.
     fn find(
         &mut self,
         alloc: Global,
@@ -65,7 +64,7 @@ impl<State: Object> Member<State> {
         self.sent = 0;
     }
 
-    // True if it is an entry of this seat with a new number.
+    // True if the entry is of this seat and has a new number.
     fn has_own(&self, found: &Option<Entry<State::Call>>) -> bool
         ensures { IsTrue result ↔ HasOwn State.object self.now found.now }
     {
@@ -75,7 +74,7 @@ impl<State: Object> Member<State> {
         entry.seat() == self.seat && entry.number() > self.reader.last(self.seat)
     }
 
-    // True if it is an entry of this seat with a new number, and not the one under way.
+    // True if the entry is of this seat and has a new number, but is not the one under way.
     fn is_alien(&self, found: &Option<Entry<State::Call>>) -> bool
         ensures { TellsAlien State.object self.now found.now result }
     {
@@ -85,7 +84,7 @@ impl<State: Object> Member<State> {
         self.has_own(found) && !are_calls_of::<State>(entry.calls(), &self.waiting[..self.sent])
     }
 
-    // ReadsEntry the entry under way, and answers its requests.
+    // Reads the entry under way, and answers its requests.
     fn read_own(
         &mut self,
         alloc: Global,
@@ -112,7 +111,7 @@ impl<State: Object> Member<State> {
         }
     }
 
-    // ReadsEntry an entry of another member, or one that was read before.
+    // Reads an entry of another member, or one that was read before.
     fn read_other(
         &mut self,
         alloc: Global,
@@ -133,7 +132,7 @@ impl<State: Object> Member<State> {
         }
     }
 
-    // Stops reading where what was found is foreign.
+    // Stops reading if what was found is foreign.
     fn stop_at(&mut self, fault: ReadFault)
         ensures { StopsWhenForeign State.object fault self.old self.new }
     {
@@ -158,7 +157,7 @@ fn are_calls_of<State: Object>(calls: &[State::Call], requests: &[Request<State:
     true
 }
 
-// Gives replies to the first requests, in order.
+// Answers the first requests with replies, in order.
 fn give<Call: Drop, Reply: Drop>(
     waiting: &mut Vec<Request<Call>>,
     answers: &mut Vec<(u64, Result<Reply, NoReply>)>,

@@ -1,10 +1,10 @@
-//! What holds of readers and members of one log.
+//! The laws of readers and members of one log.
 ghost use Rattle.camp_member.specs.Laws.{AcceptedOnce, EachTagCountsOnce, FindsOn, AdvancesAnyhow, AdvancesOn, NobodyIsBusy, NothingIsRead, ReadersAgree, ReadersShareOneHistory, ReadsOn, StopsAtForeign};
 ghost use Rattle.camp_object.specs.Objects.{begun};
 
 use camp_object::Object;
 
-/// A reader reads the lawful part of its log: from nothing, entry by entry, up to the first that is foreign.
+/// A reader has read the lawful part of its log: from its start, entry by entry, up to the first that is foreign.
 pub fn readers_follow_the_log<State: Object>()
     ensures starts { (first : State) → NothingIsRead (begun State.object first) }
     ensures goes_on { (first : State) → ReadsOn (begun State.object first) }
@@ -16,21 +16,20 @@ pub fn each_tag_counts_once<State: Object>()
     ensures law { EachTagCountsOnce State.Call }
 {}
 
-/// Readers of one log have the same history, and of readers of two parts of it from its start the history of
-/// one is a prefix of the other's.
+/// Readers of one log have the same history. If two readers have read different prefixes of it, the history of one is a
+/// prefix of the other's.
 pub fn readers_share_one_history<State: Object>()
     ensures agree { (first : State) → ReadersAgree (begun State.object first) }
     ensures law { (first : State) → ReadersShareOneHistory (begun State.object first) }
 {}
 
-/// A member has the lawful part of its log: each entry that it finds is read after the others.
+/// A member has read the lawful part of its log: each entry that it finds is read after those before it.
 pub fn members_follow_the_log<State: Object>()
     ensures law { (first : State) → FindsOn (begun State.object first) }
 {}
 
-/// Over a run of a member, each answer says what `Ask` says, each at a history that begins with the one before
-/// it; of the calls of its seat the history gets those that were answered as accepted, each once; and no
-/// answer says that the member is busy.
+/// Over a run of a member, each answer is right as `Ask` says, at a history that begins with that of the answer before
+/// it. The history gets exactly those calls of the seat that were answered as accepted, each once. No answer is Busy.
 pub fn members_are_answered_once<State: Object>()
     ensures goes_on { (first : State) → AdvancesOn (begun State.object first) }
     ensures anyhow { (first : State) → AdvancesAnyhow (begun State.object first) }

@@ -1,4 +1,4 @@
-//! A member of a log that many processes share: what it reads is one history, and it asks without IO.
+//! A member of a log that many processes share: what all of them read is one history. It does no IO of its own.
 #![tactic(auto)]
 
 mod drafts;

@@ -1,4 +1,4 @@
-//! A member of a log: who asks over it, without IO.
+//! A member of a log: it asks calls over the log, without IO of its own.
 ghost use Rattle.std.specs.Prelude.{◌≡◌, ◌≤◌, ◌++◌, [], ◌∷◌, length, OnOk, OnErr, IfOk, MatchOption};
 ghost use Rattle.camp_object.specs.Histories.{IsLegal, replay};
 ghost use Rattle.camp_object.specs.Objects.{IsFirst, begun};
@@ -8,14 +8,14 @@ use camp_object::Object;
 use std::alloc::{AllocError, Global};
 use std::marker::Model;
 
-/// A process that shares a log with others: it requests reads and appends, and is given their outcomes. Contracts
-/// see it as `Membership`.
+/// A process that shares a log with others: it says what to read and append, and is given the outcomes. Contracts see
+/// it as `Membership`.
 #[derive(Drop)]
 pub struct Member<State: Object> {
     pub(crate) seat: u128,
     pub(crate) reader: Reader<State>,
     pub(crate) is_stopped: bool,
-    /// The requests without an answer, in order; the first `sent` are in the entry under way.
+    /// The requests without an answer, in order; the first `sent` of them are in the entry under way.
     pub(crate) waiting: Vec<Request<State::Call>>,
     pub(crate) sent: usize,
     pub(crate) answers: Vec<(u64, Result<State::Reply, NoReply>)>,
@@ -45,8 +45,8 @@ impl<State: Object> Model for Member<State> {
 impl<State: Object> Member<State> {
     ghost use Rattle.camp_member.specs.Members.{new_member};
 
-    /// Makes a member of a seat that nobody else has: where two have one seat and append an entry of the same
-    /// number with equal calls, each takes it for its own. Its history begins with a first state.
+    /// Makes a member of a seat that no other process has. If two had one seat, each would take the other's entry for
+    /// its own if number and calls were equal. Its history begins with this initial state.
     pub fn new(alloc: Global, first: State, seat: u128) -> Member<State>
         requires { IsFirst State.object first }
         ensures exact { result ≡ new_member first seat }
@@ -68,15 +68,15 @@ impl<State: Object> Member<State> {
         &self.reader
     }
 
-    /// True if it has found what is no entry of a member, or an entry of another process with its seat. It then
-    /// answers at what it has read, and appends nothing.
+    /// True if it has found what is foreign, or an entry of another process with its seat. It then answers from what it
+    /// has read, and appends nothing.
     pub fn is_stopped(&self) -> bool
         ensures exact { result ≡ self.now.is_stopped }
     {
         self.is_stopped
     }
 
-    /// Returns the requests that wait for an answer, in order; those of the entry under way come first.
+    /// Returns the requests that wait for an answer, in order, beginning with those of the entry under way.
     pub fn waiting(&self) -> &[Request<State::Call>]
         ensures exact { result.now ≡ self.now.waiting }
         ensures within { self.now.sent ≤ length self.now.waiting }
@@ -84,7 +84,7 @@ impl<State: Object> Member<State> {
         &self.waiting
     }
 
-    /// Queues a request after those that wait for an answer.
+    /// Queues a request after those that wait already.
     pub fn ask(&mut self, request: Request<State::Call>) -> Result<(), AllocError>
         ensures waits { OnOk result (self.new ≡ record self.old { waiting = self.old.waiting ++ request ∷ [] }) }
         ensures stays { OnErr result (self.new ≡ self.old) }
@@ -93,7 +93,7 @@ impl<State: Object> Member<State> {
         Ok(())
     }
 
-    /// Takes the next answer, in the order of the requests, with the number of its request.
+    /// Removes the next answer, in the order of the requests, and returns it with the number of its request.
     pub fn answer(&mut self) -> Option<(u64, Result<State::Reply, NoReply>)>
         ensures exact { MatchOption result
             ((self.old.answers ≡ []) × (self.new ≡ self.old))

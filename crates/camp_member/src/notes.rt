@@ -1,12 +1,11 @@
-//! Calls with notes: an object that is asked them decides the calls, and passes over the notes.
+//! Calls with notes, and an object that decides the calls and ignores the notes.
 ghost use Rattle.std.specs.Prelude.{◌≡◌};
 
 use camp_object::{Decided, Object};
 use std::alloc::{AllocError, Global};
 use std::marker::Model;
 
-/// A call, and the bytes of the note that stands before it; empty if it has none. Contracts see it as
-/// `WithNote`.
+/// A call, and the bytes of the note before it; empty if it has none. Contracts see it as `WithNote`.
 #[derive(Drop)]
 pub struct NotedCall<Call: Drop> {
     note: Vec<u8>,
@@ -44,7 +43,7 @@ impl<Call: Drop> NotedCall<Call> {
     }
 }
 
-/// An object that is asked calls with notes. Contracts see it as its state.
+/// An object that is asked calls with notes. Contracts see its state.
 #[derive(Drop)]
 pub struct Noting<State: Object> {
     state: State,
@@ -57,7 +56,7 @@ impl<State: Object> Model for Noting<State> {
 }
 
 impl<State: Object> Noting<State> {
-    /// Makes it of a state.
+    /// Wraps a state.
     pub fn new(state: State) -> Noting<State>
         ensures exact { result ≡ state }
     {

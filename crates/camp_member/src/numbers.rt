@@ -1,11 +1,11 @@
-//! The number of the last entry of each seat that counted.
+//! For each seat the number of its last entry that counted.
 ghost use Rattle.std.specs.Prelude.{◌≡◌, ◌==◌, ℕ, [], OnOk, OnErr, if◌then◌else◌};
 ghost use Rattle.camp_member.specs.Entries.{number_in};
 
 use std::alloc::{AllocError, Global};
 use std::collections::BTreeMap;
 
-/// The number of the last entry of each seat that counted; 0 if none did.
+/// For each seat the number of its last entry that counted; 0 if none did.
 pub(crate) type Numbers = BTreeMap<u128, u64>;
 
 /// Makes an empty table.

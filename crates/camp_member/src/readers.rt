@@ -1,4 +1,4 @@
-//! A reader of a log: it decides each entry where it stands, and each tag once.
+//! A reader of a log: it decides the calls of each entry, and each tag only once.
 ghost use Rattle.std.specs.Prelude.{◌≡◌, ◌+◌, ◌<◌, ◌^◌, ◌⊎◌, ℕ, [], true, None, Some, MatchOption, length, IfOk, IfErr, OnErr, IfSome, OnOk, IsSome};
 ghost use Rattle.std.specs.Option.{unwrap_or};
 ghost use Rattle.camp_object.specs.Histories.{IsAccepted, IsAnswered, IsLegal, replay};
@@ -20,13 +20,13 @@ pub struct Reader<State: Object> {
     numbers: Numbers,
 }
 
-/// What an entry is where it stands.
+/// The kind of the next entry of a log.
 enum Standing {
-    /// It has the next number of its seat.
+    /// It counts: it has the next number of its seat.
     New,
-    /// An entry with its tag counted before.
+    /// It is a repetition: an entry with its tag counted before.
     Repeated,
-    /// None of both.
+    /// It is neither.
     Foreign,
 }
 
@@ -49,7 +49,7 @@ impl<State: Object> Reader<State> {
     ghost use Rattle.camp_member.specs.Inside.Standings.{IsStanding};
     ghost use Rattle.camp_member.specs.Readings.{IsReadFault, ReadsNew, ReadsEntry};
 
-    /// Makes a reader that has read nothing. Its history begins with a first state.
+    /// Makes a reader that has read nothing. Its history begins with this initial state.
     pub fn new(alloc: Global, first: State) -> Reader<State>
         requires { IsFirst State.object first }
         ensures first { result.first ≡ first }
@@ -72,7 +72,7 @@ impl<State: Object> Reader<State> {
         self.index
     }
 
-    /// Returns the accepted calls in order, each under its seat.
+    /// Returns the accepted calls in order, each with its seat.
     pub fn history(&self) -> &[(u128, State::Call)]
         ensures value { result.now ≡ self.now.history }
         ensures legal { IsLegal (begun State.object self.now.first) self.now.history }
@@ -105,7 +105,7 @@ impl<State: Object> Reader<State> {
         number_of(&self.numbers, seat)
     }
 
-    /// Returns the answer to a call at what was read; none if the call is accepted there.
+    /// Returns the answer to a call at what was read; `None` if the call would be accepted there.
     pub fn answer_to(&self, call: &State::Call) -> Result<Option<State::Reply>, AllocError>
         ensures answers { IfOk result (λ answer. MatchOption answer
             (IsAccepted (begun State.object self.now.first) self.now.history call.now)
@@ -121,9 +121,8 @@ impl<State: Object> Reader<State> {
         }
     }
 
-    /// ReadsEntry what stands at an index of the log: an entry, or `None` if it is none. Returns the reply to each
-    /// call of an entry that counts, and nothing for one whose tag counted before. After a fault the reader is
-    /// as it was.
+    /// Reads what is at an index of the log: an entry, or `None` if there is none in it. Returns the reply to each call
+    /// of an entry that counts, and nothing for one whose tag counted before. After a fault the reader is unchanged.
     pub fn take(
         &mut self,
         alloc: Global,
@@ -152,7 +151,7 @@ impl<State: Object> Reader<State> {
         }
     }
 
-    // Says what an entry is where it stands next.
+    // Returns the kind of the entry that comes next.
     fn standing(&self, entry: &Entry<State::Call>) -> Standing
         ensures { IsStanding (number_in self.now.numbers) entry.now result }
     {
@@ -169,7 +168,7 @@ impl<State: Object> Reader<State> {
         Standing::Foreign
     }
 
-    // Returns the index after the next; none as if out of memory.
+    // Returns the index after the next one; an overflow is reported as out of memory.
     fn next_index(&self) -> Result<usize, AllocError>
         ensures { IfOk result (λ next. next ≡ self.now.index + 1) }
     {
@@ -206,7 +205,7 @@ impl<State: Object> Reader<State> {
     }
 }
 
-// Replaces a state by the next, if there is one.
+// Replaces a state by the next one, if there is one.
 fn advance<State: Object>(state: &mut State, next: Option<State>)
     ensures { state.new ≡ unwrap_or next state.old }
 {

@@ -12,25 +12,25 @@ use crate::{Entry, MAX_CALLS, Member, NoReply, Request, Want};
 use camp_object::Object;
 use std::alloc::{AllocError, Global};
 
-/// What a member can do next.
+/// The next step of a member.
 #[derive(Drop)]
 pub(crate) enum Next<Reply: Drop> {
-    /// Give this answer to the first request.
+    /// To give this answer to the first request.
     Answers(Result<Reply, NoReply>),
-    /// No more without the log.
+    /// Nothing without the log.
     Rests(Rest),
 }
 
-/// What a member needs of the log before it can answer its first request.
+/// What a member needs from the log before it can answer its first request.
 #[derive(Clone, Copy)]
 pub(crate) enum Rest {
     /// Nothing: no request waits.
     Nothing,
     /// More accepted calls.
     Waits,
-    /// That the first request is appended.
+    /// An entry with the first request, which is to be appended.
     Sends,
-    /// That the entry under way is found.
+    /// The entry under way, which is to be found.
     UnderWay,
 }
 
@@ -39,8 +39,8 @@ impl<State: Object> Member<State> {
     ghost use Rattle.camp_member.specs.declared.wanting.Next.TheVariants as next;
     ghost use Rattle.camp_member.specs.declared.wanting.Rest.TheVariants as rest;
 
-    /// Answers the first requests that can be answered at what was read. If memory runs out, the entry under
-    /// way stays, and what was answered stays answered.
+    /// Answers the first requests that can be answered at what was read. If memory runs out, the entry under way stays,
+    /// and so do the answers already given.
     pub fn answer_ready(&mut self) -> Result<(), AllocError>
         ensures rests { IfOk result (λ _. IsAtRest (begun State.object self.new.reading.first) self.new) }
         ensures stays { 0 < self.old.sent → self.new ≡ self.old }
@@ -53,10 +53,10 @@ impl<State: Object> Member<State> {
         Ok(())
     }
 
-    /// Answers the first requests that can be answered at what was read, as `answer_ready` does, and says what
-    /// the member wants of the log. A new entry gets at most `most` calls (one if that is 0), and at most 256.
-    /// An entry under way is wanted as it is until it is found or refused. If memory runs out, the entry under
-    /// way stays, and what was answered stays answered.
+    /// Answers the first requests that can be answered at what was read, as `answer_ready` does, and returns what the
+    /// member wants of the log. A new entry gets at most `most` calls (one if that is 0), and at most 256. An entry
+    /// under way is wanted unchanged until it is found or refused. If memory runs out, the entry under way stays, and
+    /// so do the answers already given.
     pub fn want(&mut self, alloc: Global, most: usize) -> Result<Want<State::Call>, AllocError>
         ensures few { self.old.sent ≡ 0 → self.new.sent ≤ (if most == 0 then 1 else most) }
         ensures rests { IsAtRest (begun State.object self.old.reading.first) self.old → self.new.waiting ≡ self.old.waiting }
@@ -100,7 +100,7 @@ impl<State: Object> Member<State> {
         Err(AllocError)
     }
 
-    // Says what comes next.
+    // Returns the next step of the member.
     fn next(&self) -> Result<Next<State::Reply>, AllocError>
         ensures { IfOk result (IsNext (begun State.object self.now.reading.first) self.now) }
     {
@@ -129,7 +129,8 @@ impl<State: Object> Member<State> {
         Ok(())
     }
 
-    // Returns the answer to a request at what was read; none if it has to wait for more, or to be appended.
+    // Returns the answer to a request at what was read; `None` if the request has to wait for more calls, or to be
+    // appended.
     fn answer_to(
         &self,
         request: &Request<State::Call>,
@@ -146,7 +147,7 @@ impl<State: Object> Member<State> {
         }
     }
 
-    // Returns the answer to a request that needs more of the log, if the member has stopped.
+    // Returns the answer that a member that has stopped gives to a request that needs more of the log.
     fn stopped_answer(&self) -> Option<Result<State::Reply, NoReply>>
         ensures { result ≡ (if self.now.is_stopped then Some (Err no_reply.Stopped) else None) }
     {
@@ -157,7 +158,7 @@ impl<State: Object> Member<State> {
         }
     }
 
-    // Returns how many of the first requests go into an entry.
+    // Returns the number of first requests that go into an entry.
     fn batch(&self, limit: usize) -> usize
         requires some { 0 < limit }
         requires sends { IsRest (begun State.object self.now.reading.first) self.now rest.Sends }
@@ -190,8 +191,8 @@ impl<State: Object> Member<State> {
         })
     }
 
-    /// Says that the log did not take the entry under way, and never will: its requests are answered so. If
-    /// memory runs out, the member is as it was.
+    /// Reports that the log has refused the entry under way, which will never be in it: its requests get no reply, for
+    /// that reason. If memory runs out, the member is unchanged.
     pub fn refused(&mut self) -> Result<(), AllocError>
         ensures refused { OnOk result (self.new ≡ without_reply no_reply.Refused self.old) }
         ensures stays { OnErr result (self.new ≡ self.old) }
@@ -202,8 +203,8 @@ impl<State: Object> Member<State> {
         self.give_up_first(count, NoReply::Refused)
     }
 
-    /// Says that the log ends at an index. Where that is all that was read, the first request is answered so if
-    /// it waits for more accepted calls. If memory runs out, the member is as it was.
+    /// Reports that the log ends at an index. If the member has read all of it and the first request waits for more
+    /// accepted calls, that request gets no reply. If memory runs out, the member is unchanged.
     pub fn ended(&mut self, index: usize) -> Result<(), AllocError>
         ensures ends { OnOk result (AfterEnd (begun State.object self.old.reading.first) self.old index self.new) }
         ensures stays { OnErr result (self.new ≡ self.old) }
@@ -216,7 +217,7 @@ impl<State: Object> Member<State> {
         self.give_up_first(1, NoReply::Ended)
     }
 
-    // True if the first request waits for more than a log has that ends at an index.
+    // True if the first request waits for more calls than a log has that ends at an index.
     fn waits_at_end(&self, index: usize) -> bool
         ensures { TellsEnd (begun State.object self.now.reading.first) self.now index result }
     {
@@ -232,7 +233,7 @@ impl<State: Object> Member<State> {
         true
     }
 
-    // Gives no reply to the first requests, and has no entry under way.
+    // Answers the first requests with no reply; there is then no entry under way.
     fn give_up_first(&mut self, count: usize, why: NoReply) -> Result<(), AllocError>
         requires { count ≤ length self.old.waiting }
         ensures gives { OnOk result (self.new ≡ without_reply why (record self.old { sent = count })) }
@@ -252,7 +253,7 @@ fn first_of<Call: Drop>(waiting: &[Request<Call>]) -> Option<&Request<Call>>
     waiting.first()
 }
 
-// Returns how many calls an entry may get: one if none were allowed.
+// Returns the most calls of an entry, given the caller's limit: at least one.
 fn at_least_one(most: usize) -> usize
     ensures exact { result ≡ (if most == 0 then 1 else most) }
     ensures some { 0 < result }
@@ -285,7 +286,7 @@ fn copy_calls<State: Object>(
     Ok(calls)
 }
 
-// Gives no reply to the first requests.
+// Answers the first requests with no reply.
 fn give_up<Call: Drop, Reply: Drop>(
     waiting: &mut Vec<Request<Call>>,
     answers: &mut Vec<(u64, Result<Reply, NoReply>)>,

@@ -8,7 +8,7 @@ use Rattle.camp_notation.specs.Patches.{named_text}
 use Rattle.camp_notation.specs.Lists.{list_text}
 use Rattle.camp_notation.specs.Contexts.{contexted_text, set_text}
 
--- a plain catch as [PATCH], a conflictor as (EFFECT, SET, IDENTITY)
+-- a plain catch, as [PATCH], or a conflictor, as (EFFECT, SET, IDENTITY)
 abbrev pub catch_text : List Named → Catch → List ℕ
 catch_text known (Plain a) = codes "[" ++ named_text known a ++ codes "]"
 catch_text known (Catch.Conflictor k) =

@@ -7,13 +7,13 @@ use Rattle.camp_notation.specs.Words.{row}
 use Rattle.camp_notation.specs.Patches.{named_text}
 use Rattle.camp_notation.specs.Lists.{list_text}
 
--- a context: nothing if it is empty, a single primitive, and any other as a list
+-- a context: nothing if it is empty, a single primitive, or else a list
 abbrev pub context_text : List Named → List Named → List ℕ
 context_text known [] = []
 context_text known (p ∷ []) = named_text known p
 context_text known (p ∷ q ∷ s) = list_text known (p ∷ q ∷ s)
 
--- CONTEXT:PATCH
+-- a contexted patch: CONTEXT:PATCH
 abbrev pub contexted_text : List Named → ContextedPatch → List ℕ
 contexted_text known x = context_text known x.context ++ codes ":" ++ named_text known x.patch
 

@@ -4,7 +4,7 @@ use Rattle.std.specs.FinMap.{entries}
 use Rattle.camp_base.specs.Trees.{Lines, Files}
 use Rattle.camp_notation.specs.Words.{word_text, row, lines_text}
 
--- PATH: [LINE, ..]
+-- a file: PATH: [LINE, ..]
 abbrev pub file_notation : List ℕ × Lines → List ℕ
 file_notation file = word_text file.0 ++ codes ": " ++ lines_text file.1
 

@@ -14,22 +14,22 @@ is_plain_byte byte = is_between hyphen digit_nine byte || (is_capital_letter byt
 abbrev pub is_plain : List ℕ → Bool
 is_plain bytes = not (length bytes == 0) && list_all is_plain_byte bytes
 
--- a digit of base 16: `0` to `9`, `a` to `f`
+-- a hexadecimal digit: `0` to `9`, `a` to `f`
 abbrev pub hex_digit : ℕ → ℕ
 hex_digit n = if nat_lt n 10 then digit_zero + n else small_a + (n - 10)
 
--- a byte in quotes: `"` and `\` escaped by a `\`; a byte that is not printable as `\x` and two digits
+-- a byte between quotes: `"` and `\` after a `\`; a byte that is not printable as `\x` and two hexadecimal digits
 abbrev pub quoted_byte : ℕ → List ℕ
 quoted_byte byte =
     if byte == quote || byte == backslash then backslash ∷ byte ∷ []
     else if is_printing byte then byte ∷ []
     else codes "\\x" ++ hex_digit (byte / 16) ∷ hex_digit (byte % 16) ∷ []
 
--- bytes as a word: as they are, or between quotes
+-- bytes as a word: unquoted if possible, else between quotes
 abbrev pub word_text : List ℕ → List ℕ
 word_text bytes = if is_plain bytes then bytes else codes "\"" ++ flat_map quoted_byte bytes ++ codes "\""
 
--- the separator before an item of a row: nothing before the first, a comma and a space before any other
+-- the separator before an item of a row: nothing before the first item, else a comma and a space
 abbrev pub separator : ℕ → List ℕ
 separator zero = []
 separator (suc at) = codes ", "

@@ -25,7 +25,7 @@ pub fn read_contexted(
     Ok(x)
 }
 
-/// Parses a set. Members that are not in the order of their labels, or a label twice, are `WrittenOtherwise`.
+/// Parses a set. Members out of the order of their labels, or with equal labels, give the fault `WrittenOtherwise`.
 pub fn read_set(alloc: Global, known: &[Named], text: &[u8]) -> Result<CtxSet, NotationError>
     ensures text { IfOk result (λ xs. text.now ≡ set_text known.now xs) }
 {
@@ -58,7 +58,7 @@ fn read_patch(cursor: &mut Cursor) -> Result<Named, NotationError> {
     read_item(cursor)
 }
 
-// Parses a context: nothing before a colon, a list in brackets, or one primitive.
+// Parses a context: nothing before the colon, a list in brackets, or one primitive.
 fn read_context(cursor: &mut Cursor) -> Result<Seq, NotationError> {
     if cursor.stands_at(b"[") {
         return read_items(cursor);

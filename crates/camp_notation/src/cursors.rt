@@ -7,7 +7,7 @@ use camp_prim::Named;
 use std::alloc::{AllocError, Global};
 use std::str;
 
-/// A text that is parsed from left to right, in which a label may represent a known primitive.
+/// A text that is parsed from left to right. A label alone stands for the known primitive with that label.
 #[derive(Drop)]
 pub(crate) struct Cursor<'a> {
     pub(crate) alloc: Global,
@@ -32,7 +32,7 @@ impl<'a> Cursor<'a> {
         }
     }
 
-    /// Returns the number of bytes left, which bounds how many more items can follow.
+    /// Returns the number of bytes that are left, an upper bound for the number of items that can follow.
     pub(crate) fn len(&self) -> usize {
         self.rest.len()
     }
@@ -53,7 +53,7 @@ impl<'a> Cursor<'a> {
         }
     }
 
-    /// Skips a sign; it is `Expected(mark)` if it does not come next.
+    /// Skips a sign; the fault is `Expected(mark)` if it does not come next.
     pub(crate) fn expect(&mut self, sign: &[u8], mark: char) -> Result<(), NotationError> {
         if self.take(sign) {
             Ok(())
@@ -62,7 +62,7 @@ impl<'a> Cursor<'a> {
         }
     }
 
-    /// Fails unless the text has ended.
+    /// Returns a fault unless the text has ended.
     pub(crate) fn expect_end(&self) -> Result<(), NotationError> {
         if self.rest.is_empty() {
             Ok(())
@@ -71,8 +71,8 @@ impl<'a> Cursor<'a> {
         }
     }
 
-    /// Fails unless rendering what was parsed gives the text, byte for byte. That the text has ended is
-    /// checked first, so that trailing bytes have their own error.
+    /// Returns a fault unless rendering what was parsed gives the text, byte for byte. Before that it checks that the
+    /// text has ended, so that trailing bytes have a fault of their own.
     pub(crate) fn expect_written(
         &self,
         text: &[u8],

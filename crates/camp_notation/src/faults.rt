@@ -25,17 +25,17 @@ pub enum NotationError {
     BadPath,
     #[error("bad line")]
     BadLine,
-    /// Not a hunk: its line is 0, both its sides are empty, or they reach beyond 2^30.
+    /// The hunk is out of range: its line is 0, both its sides are empty, or they reach beyond 2^30.
     #[error("no hunk")]
     NoHunk,
-    /// A label stands alone, and no primitive of that label is known.
+    /// A label stands alone, but no known primitive has it.
     #[error("unknown label")]
     UnknownLabel,
     /// A path occurs twice in a tree.
     #[error("a file twice")]
     FileTwice,
-    /// The value is rendered differently: with other quotes, in another order of files, without leading
-    /// zeros, or by its label alone.
+    /// The value would be rendered differently: with other quotes, in another order of files, without leading zeros, or
+    /// by its label alone.
     #[error("written otherwise")]
     WrittenOtherwise,
     #[error("out of memory")]

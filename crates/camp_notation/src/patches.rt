@@ -39,7 +39,7 @@ pub(crate) fn append_named(text: &mut String, known: &[Named], p: &Named) -> Res
     }
 }
 
-/// True if this is the text of the primitive that a label alone represents.
+/// True if a label alone represents the primitive with this text.
 fn is_known(known: &[Named], label: Label, whole: &String) -> Result<bool, AllocError>
     ensures { IfOk result (λ found. found ≡ has_text (string_bytes whole.now) (first_with label known.now)) }
 {
@@ -49,7 +49,7 @@ fn is_known(known: &[Named], label: Label, whole: &String) -> Result<bool, Alloc
     }
 }
 
-/// Returns the first of the known primitives with a label, or `None`.
+/// Returns the first known primitive with a label, or `None`.
 pub(crate) fn first_with(known: &[Named], label: Label) -> Option<&Named>
     ensures { option_copied result ≡ first_with label known.now }
 {

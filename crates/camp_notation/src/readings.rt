@@ -145,8 +145,8 @@ fn read_place(cursor: &mut Cursor) -> Result<u8, NotationError> {
     place.ok().ok_or(NotationError::BadNumber)
 }
 
-// Parses `add PATH`, `remove PATH`, or `PATH LINE [OLD, ..] -> [NEW, ..]`. What comes after the second word
-// decides, so that a path may be called `add`.
+// Parses `add PATH`, `remove PATH`, or `PATH LINE [OLD, ..] -> [NEW, ..]`. Which of them it is depends on what follows
+// the second word, so that a path may be called `add`.
 fn read_change(cursor: &mut Cursor) -> Result<Primitive, NotationError> {
     let first = cursor.word()?;
     read_behind(&first, cursor)

@@ -2,9 +2,9 @@
 use crate::NotationError;
 use crate::cursors::Cursor;
 
-/// A collection that is read item by item.
+/// A collection whose items are parsed one by one.
 pub(crate) trait Row {
-    /// Reads one more item.
+    /// Parses one more item.
     fn read_next(&mut self, cursor: &mut Cursor) -> Result<(), NotationError>;
 }
 
@@ -15,7 +15,7 @@ pub(crate) const SQUARE: Brackets = [b'[', b']'];
 
 pub(crate) const CURLY: Brackets = [b'{', b'}'];
 
-/// Reads a row: items in brackets, separated by a comma and a space.
+/// Parses a row: items in brackets, separated by a comma and a space.
 pub(crate) fn read_row<R: Row + Drop>(
     row: R,
     brackets: Brackets,

@@ -1,4 +1,4 @@
--- Histories of an object: the accepted calls in order, each under the number of the seat that asked it.
+-- Histories of an object: the accepted calls in order, each with the number of the seat that asked it.
 use Rattle.std.specs.Prelude.{◌≡◌, ℕ, List, [], ◌∷◌, ◌++◌, Option, None, Some, IsSome, ◌==◌, if◌then◌else◌}
 use Rattle.std.specs.Option.{option_and_then}
 use Rattle.camp_object.specs.Objects.{Sequential}
@@ -14,7 +14,7 @@ own seat [] = []
 own seat (entry ∷ entries) = if entry.0 == seat then entry.1 ∷ own seat entries else own seat entries
 
 module _ {State Call Reply : Type 0} (object : Sequential State Call Reply) where
-  -- the state that calls lead to from a state, if each is accepted in its turn
+  -- the state that calls lead to from a state, if each of them is accepted
   abbrev pub run : Option State → List (ℕ × Call) → Option State
   run state [] = state
   run state (entry ∷ entries) = run (option_and_then (λ s. object.after s entry.1) state) entries
@@ -23,7 +23,7 @@ module _ {State Call Reply : Type 0} (object : Sequential State Call Reply) wher
   abbrev pub replay : List (ℕ × Call) → Option State
   replay history = run (Some object.initial) history
 
-  -- each call is accepted at the replay of the calls before it
+  -- a history is legal: each call is accepted at the replay of the calls before it
   abbrev pub IsLegal : List (ℕ × Call) → Type 0
   IsLegal history = IsSome (replay history)
 
@@ -31,7 +31,7 @@ module _ {State Call Reply : Type 0} (object : Sequential State Call Reply) wher
   abbrev pub IsAccepted : List (ℕ × Call) → Call → Type 0
   IsAccepted history call = IsSome (option_and_then (λ state. object.after state call) (replay history))
 
-  -- at the replay of the history the call is not accepted, and this is the reply to it
+  -- the call is not accepted at the replay of the history, and this is the reply to it
   pub record IsAnswered (history : List (ℕ × Call)) (call : Call) (reply : Reply) : Type 0 where
     pub state : State
     pub replays : replay history ≡ Some state

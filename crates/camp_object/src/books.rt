@@ -8,8 +8,8 @@ use crate::{Decided, Fault, Object};
 use std::alloc::{AllocError, Global};
 use std::marker::Model;
 
-/// A state and the calls that led to it. Contracts see it as the state that the history began with, and
-/// these calls, each under its seat.
+/// A state and the calls that led to it. Contracts see the initial state of the history, and these calls, each with its
+/// seat.
 #[derive(Drop)]
 pub struct Book<State: Object> {
     state: State,
@@ -31,7 +31,7 @@ impl<State: Object> Model for Book<State> {
 }
 
 impl<State: Object> Book<State> {
-    /// Makes a book without calls, whose history begins with the initial state.
+    /// Makes a book without calls, with the default initial state.
     pub fn new(alloc: Global) -> Result<Book<State>, AllocError>
         ensures exact { IfOk result (λ book. book ≡ new_book State.object.initial) }
     {
@@ -39,7 +39,7 @@ impl<State: Object> Book<State> {
         Ok(Book::begun(alloc, first))
     }
 
-    /// Makes a book without calls, whose history begins with a state.
+    /// Makes a book without calls, with this initial state.
     pub fn begun(alloc: Global, first: State) -> Book<State>
         requires { IsFirst State.object first }
         ensures exact { result ≡ new_book first }
@@ -50,7 +50,7 @@ impl<State: Object> Book<State> {
         }
     }
 
-    /// Returns the state after the calls of the history.
+    /// Returns the state after all calls of the book.
     pub fn state(&self) -> &State
         ensures exact { replay_book State.object self.now ≡ Some result.now }
         ensures began { State.object.first result.now ≡ self.now.first }
@@ -58,7 +58,7 @@ impl<State: Object> Book<State> {
         &self.state
     }
 
-    /// Returns the accepted calls in order, each under its seat.
+    /// Returns the accepted calls in order, each with its seat.
     pub fn history(&self) -> &[(u32, State::Call)]
         ensures value { result.now ≡ self.now.calls }
         ensures legal { IsLegal (begun State.object self.now.first) self.now.calls }
@@ -67,8 +67,8 @@ impl<State: Object> Book<State> {
         &self.history
     }
 
-    /// Executes a call for a seat. An accepted call is appended to the book under the seat. The only fault is
-    /// out of memory.
+    /// Executes a call for a seat. An accepted call is appended to the book with the seat. The only error is out of
+    /// memory.
     pub fn ask(&mut self, seat: u32, call: &State::Call) -> Result<State::Reply, Fault>
         ensures asks { AsksBook State.object seat self.old call.now result self.new }
     {

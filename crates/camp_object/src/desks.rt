@@ -6,10 +6,9 @@ ghost use Rattle.camp_object.specs.Objects.{begun};
 
 use crate::{Book, Fault, Object};
 
-/// Where one caller asks an object. Its calls are answered at a history that others may lengthen.
-/// Proofs see who asks (`caller`), the state that the history begins with (`first`), the history that the
-/// caller has seen (`seen`), whether nobody else can ask (`is_only`), and whether one desk is another at a
-/// later moment (`keeps`): what the desk lends stays the same.
+/// Where one caller asks an object. Others may add calls to its history. Proofs see who asks (`caller`), the initial
+/// state of the history (`first`), the history that the caller has seen (`seen`), whether nobody else can ask
+/// (`is_only`), and whether one desk is a later state of another (`keeps`).
 pub trait Desk<State: Object> {
     ghost caller: { Self → Caller };
 
@@ -33,7 +32,7 @@ pub trait Desk<State: Object> {
     ghost transitive: { (one two three : Self) → keeps one two → keeps two three → keeps one three };
 }
 
-/// A seat at a book that nobody else writes.
+/// A seat at a book to which nobody else adds.
 #[derive(Drop)]
 pub struct BookDesk<'a, State: Object> {
     book: &'a mut Book<State>,

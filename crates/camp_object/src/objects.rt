@@ -1,4 +1,4 @@
-//! What an object is: its first state, its decisions and its replies.
+//! The trait of objects: their initial state, their decisions and their replies.
 ghost use Rattle.std.specs.Prelude.{◌≡◌, ◌<◌, ◌^◌, ◌-◌, ◌↔◌, IfOk, IsTrue};
 ghost use Rattle.camp_object.specs.Objects.{Sequential, IsLawfulObject};
 ghost use Rattle.camp_object.specs.Deciding.{Decides};
@@ -8,9 +8,9 @@ use std::alloc::{AllocError, Global};
 /// The result of a call.
 #[derive(Drop)]
 pub enum Decided<State, Reply> {
-    /// The call is accepted, and this is the state after it.
+    /// The call is accepted and leads to this state.
     Next(State),
-    /// The reply. Nothing changes.
+    /// The call is not accepted, and this is the reply. Nothing changes.
     Answer(Reply),
 }
 
@@ -25,7 +25,7 @@ pub trait Object: Sized + Drop {
     fn initial(alloc: Global) -> Result<Self, AllocError>
         ensures { IfOk result (λ state. state ≡ object.initial) };
 
-    /// True if histories that lead to the two states began with the same state.
+    /// True if the two states have the same initial state.
     fn begins_alike(&self, other: &Self) -> bool
         ensures { IsTrue result ↔ (object.first self.now ≡ object.first other.now) };
 
@@ -33,11 +33,11 @@ pub trait Object: Sized + Drop {
         requires { object.count self.now < 2 ^ 64 - 1 }
         ensures { IfOk result (Decides object self.now call.now) };
 
-    /// Returns the reply to an accepted call at a position of the history, counted from 1.
+    /// Returns the reply to a call that was accepted at this position of the history, counted from 1.
     fn done(at: u64) -> Self::Reply
         ensures { result ≡ object.done at };
 
-    /// Returns the position in a reply, if its call was accepted.
+    /// Returns the position in a reply to an accepted call; `None` for any other reply.
     fn done_at(reply: &Self::Reply) -> Option<u64>
         ensures { result ≡ object.done_at reply.now };
 

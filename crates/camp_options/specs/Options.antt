@@ -1,4 +1,4 @@
--- The meaning of a command line, by clap's reading of its words.
+-- The meaning of a command line, as clap parses its words.
 use Rattle.std.specs.Prelude.{◌≡◌, ◌↔◌, true, ℕ, List, [], ◌∷◌, Some, codes, option_map, pos}
 use Rattle.std.specs.Str.Parse.{IsNumeral, digits_value, without_leading_plus}
 use Rattle.clap.specs.Words.{App, Row, Rule, first_of, new_app, new_rule, one_of, with_rule}
@@ -14,7 +14,7 @@ flag name = record (new_rule name) {
   parser = Some parser.Bool;
 }
 
--- the most tries of a call
+-- the greatest value of `--tries`
 abbrev pub tries_limit : ℕ
 tries_limit = 1_000
 
@@ -44,16 +44,16 @@ with_version app = record { top = record app.top { has_version = true }; subs = 
 abbrev pub program : App
 program = with_rule (with_rule (with_rule (with_rule (with_version (new_app (codes "camp"))) (flag (codes "serial"))) tries) (flag (codes "history"))) limits
 
--- the option is set
+-- an option without a value is set
 abbrev pub IsSet : List ℕ → List Row → Type 0
 IsSet name rows = one_of name rows ≡ Some (codes "true")
 
--- the value of the option is the number in decimal digits, with or without a plus sign
+-- the text given to the option is the number in decimal digits, perhaps after a plus sign
 abbrev pub WritesNumber : List ℕ → ℕ → List Row → Type 0
 WritesNumber name number rows = (text : List ℕ) × (one_of name rows ≡ Some text) × IsNumeral 10 (without_leading_plus text)
     × (number ≡ digits_value 10 (without_leading_plus text))
 
--- the options are those that clap has found
+-- the options are those that clap has parsed
 pub record Given (rows : List Row) (options : Options) : Type 0 where
   pub serial : (options.serial ≡ true) ↔ IsSet (codes "serial") rows
   pub tries : WritesNumber (codes "tries") options.tries rows

@@ -8,7 +8,7 @@ use Rattle.clap.specs.declared.error.ErrorKind.TheVariants.{DisplayHelp, Display
 use Rattle.camp_options.specs.declared.faults.WordsFault.{WordsFault}
 use Rattle.camp_options.specs.declared.faults.WordsFault.TheVariants.{NotText, Refused, Limits, Memory}
 
--- the words ask for a text: the help or the version
+-- the words ask for the help text or the version
 abbrev pub AsksForText : ErrorKind → Type 0
 AsksForText kind = (kind ≡ DisplayHelp) ⊎ (kind ≡ DisplayVersion)
 

@@ -20,7 +20,7 @@ const CLOSED_PIPE: u8 = 141;
 pub enum WordsFault {
     /// A word is not UTF-8.
     NotText,
-    /// The words are rejected, or ask for the help text or the version.
+    /// The words are rejected, or ask for the help text or the version; clap has the text.
     Refused(Error),
     /// The text of `--limits` is malformed or out of range.
     Limits(LimitsFault),
@@ -57,7 +57,7 @@ impl WordsFault {
     }
 }
 
-// Prints the requested text, or what is wrong with the command line, and returns the exit status.
+// Prints the requested text, or what is wrong with the command line; returns the exit status.
 fn report_error<R: Print + Eprint>(rt: &R, program: &str, error: &Error) -> u8
     ensures text { AsksForText (kind_of error.now) → IsPrinted result }
     ensures mistake { kind_of error.now ≢ ErrorKind.DisplayHelp → kind_of error.now ≢ ErrorKind.DisplayVersion → result ≡ 2 }
@@ -72,7 +72,7 @@ fn report_error<R: Print + Eprint>(rt: &R, program: &str, error: &Error) -> u8
     }
 }
 
-/// Reports that output could not be written, but not for a closed pipe, and returns the exit status.
+/// Reports that output could not be written, unless its pipe is closed, and returns the exit status.
 pub fn report_unwritten<R: Eprint>(rt: &R, program: &str, error: &io::Error) -> u8
     ensures status { ReportsUnwritten (error_kind error.now) result }
 {

@@ -1,4 +1,4 @@
-//! The words of a command line, parsed with `clap`, and the report if they are rejected.
+//! The words of a command line, parsed with `clap`, and what is reported if they are rejected.
 #![tactic(auto)]
 
 mod faults;

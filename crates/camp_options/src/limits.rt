@@ -33,7 +33,7 @@ impl LimitsFault {
     }
 }
 
-/// Reads limits from a text `catches=N,branches=M`.
+/// Parses limits from a text `catches=N,branches=M`.
 pub fn read_limits(text: &[u8]) -> Result<Limits, LimitsFault>
     ensures exact { result ≡ limits_in text.now }
 {
@@ -69,7 +69,7 @@ fn comma_in(text: &[u8]) -> usize
         .unwrap_or(text.len())
 }
 
-// Reads the number after a word that a text begins with.
+// Parses the number that follows a word at the start of a text.
 fn number_after(word: &[u8], text: &[u8]) -> Option<u64>
     ensures exact { result ≡ number_after word.now text.now }
 {

@@ -15,11 +15,11 @@ is_empty_file None = false
 is_empty_file (Some []) = true
 is_empty_file (Some (line ∷ lines)) = false
 
--- the lines are `before`, `gone` and `after`, and `gone` begins at `line`, counted from 1
+-- the lines are `before`, `gone` and `after`, one after the other, and `gone` begins at `line`, counted from 1
 abbrev pub is_cut : ℕ → Lines → Lines → Lines → Lines → Bool
 is_cut line before gone after lines = length before + 1 == line && pointwise bytes_eq lines (before ++ gone ++ after)
 
--- the lines with `gone` at a line replaced by `come`; None unless `gone` is there
+-- replaces `gone`, which must begin at this line, by `come`; None unless it does
 abbrev pub spliced : ℕ → Lines → Lines → Lines → Option Lines
 spliced line gone come lines =
     let before = take (line - 1) lines in

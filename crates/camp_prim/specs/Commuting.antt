@@ -17,7 +17,7 @@ path_of (Hunk hunk) = hunk.path
 abbrev pub at_line : ℕ → Edit → Edit
 at_line line hunk = record { path = hunk.path; line = line; old = hunk.old; new = hunk.new }
 
--- two hunks with `gap` lines between them commute past each other; with none only if no side is empty
+-- two hunks with `gap` lines between them may commute: if `gap` is 0, only if no side of them is empty
 abbrev pub MayPass : ℕ → Edit → Edit → Type 0
 MayPass gap h k = (0 < gap) ⊎ ((0 < length h.old) × (0 < length h.new) × (0 < length k.old) × (0 < length k.new))
 
@@ -63,7 +63,7 @@ PrimitivesCommute p q q' p' = CommutesOnTwoPaths p q q' p' ⊎ (CommutesBelow p 
 abbrev pub AreInRange : Primitive → Primitive → Primitive → Primitive → Type 0
 AreInRange p q q' p' = InRange p × InRange q × InRange q' × InRange p'
 
--- p q <-> q' p', in range or not: the absolute labels differ, the primitives commute, and labels are kept
+-- p q <-> q' p' without the test of ranges: the absolute labels differ, the primitives commute, and labels are kept
 pub record CommuteAnywhere (p q q' p' : Named) : Type 0 where
   pub apart : ¬ (SameKey p q)
   pub change : PrimitivesCommute p.prim q.prim q'.prim p'.prim
@@ -75,6 +75,6 @@ pub record Commute (p q q' p' : Named) : Type 0 where
   pub anywhere : CommuteAnywhere p q q' p'
   pub ranges : AreInRange p.prim q.prim q'.prim p'.prim
 
--- p and then q commute in place: p becomes p', and q becomes q'
+-- p and then q are exchanged in place: p becomes p', and q becomes q'
 abbrev pub CommutesInPlace : Named × Named → Named × Named → Type 0
 CommutesInPlace old new = Commute old.0 old.1 new.1 new.0

@@ -10,7 +10,7 @@ pub record Edit : Type 0 where
   pub old : Lines
   pub new : Lines
 
--- the hunk of a path, a line and two sides
+-- a hunk made from a path, a line and two sides
 abbrev pub hunk_of : List ℕ → ℕ → Lines → Lines → Edit
 hunk_of path line old new = record { path = path; line = line; old = old; new = new }
 

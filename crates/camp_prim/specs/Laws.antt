@@ -26,15 +26,15 @@ Square p q q' p' = Commute (inverse_of p) q' q (inverse_of p')
 abbrev pub SameEffect : Named → Named → Named → Named → Type 0
 SameEffect p q q' p' = (old new : Files) → Leads p.prim q.prim old new ↔ Leads q'.prim p'.prim old new
 
--- the four laws
+-- all four laws
 pub record CommuteLaws (p q q' p' : Named) : Type 0 where
   pub own_inverse : OwnInverse p q q' p'
   pub inverse : Inverse p q q' p'
   pub square : Square p q q' p'
   pub effect : SameEffect p q q' p'
 
--- `commute` and `commute_in_place` agree: None exactly if false; else both give the same two primitives, the
--- second function in place
+-- `commute` and `commute_in_place` agree: the first returns None exactly if the second returns false; else both give
+-- the same two primitives
 abbrev pub BothCommuteAlike : Type 0
 BothCommuteAlike =
     (p q p' q' : Named) (found : Option (Named × Named)) (done : Bool)

@@ -14,7 +14,7 @@ pub(crate) struct Body {
     held: Held,
 }
 
-// A body holds its vectors as they were given until it is shared or copied.
+// A body keeps the vectors that it was given until it is shared or copied.
 #[derive(Debug, Drop)]
 enum Held {
     Own(Vectors),

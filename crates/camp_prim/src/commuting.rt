@@ -10,8 +10,8 @@ ghost use Rattle.camp_prim.specs.Commuting.{Commute};
 use crate::{Hunk, Named, Primitive, commute_in_place, commutes};
 use std::alloc::AllocError;
 
-/// Commutes `p` and then `q`: `Some((q', p'))`, where `q'` and then `p'` have the same effect, or `None` if
-/// they do not commute. `None` is exact: it never means out of memory.
+/// Commutes `p` and then `q`: `Some((q', p'))`, where `q'` and then `p'` have the same effect, or `None` if they do not
+/// commute. Runs out of memory only if they commute.
 pub fn commute(p: &Named, q: &Named) -> Result<Option<(Named, Named)>, AllocError>
     ensures exact { IfOk result (FindsPair (Commute p.now q.now)) }
     ensures laws { IfOk result (λ found. IfSome found (λ pair. CommuteLaws p.now q.now pair.0 pair.1)) }
@@ -93,9 +93,9 @@ fn hunk_targets(h: &Hunk, k: &Hunk) -> Option<Targets>
     None
 }
 
-/// Computes the line to which the lower hunk moves past one at line `upper` with `takes` old and `leaves` new lines: from
-/// `gap` lines below the new lines to `gap` lines below the old ones. `None` if the two do not commute, or the line would
-/// be out of range.
+/// Computes the line to which the lower hunk moves past one at line `upper` with `takes` old and `leaves` new lines.
+/// The hunk was `gap` lines below the new lines; it is then `gap` lines below the old ones. `None` if the two do not
+/// commute, or the line would be out of range.
 fn line_below(upper: u32, takes: usize, leaves: usize, lower: &Hunk) -> Option<u32>
     requires { upper + takes + leaves ≤ greatest_reach }
     ensures { Finds (ComesTo upper takes leaves lower.now) result }
@@ -108,8 +108,7 @@ fn line_below(upper: u32, takes: usize, leaves: usize, lower: &Hunk) -> Option<u
     lower.can_stand_at(line).then_some(line)
 }
 
-/// Returns the number of lines from the end of the upper lines to a line, or `None` if the line is among
-/// them.
+/// Returns the number of lines between the end of the upper hunk's lines and a line; `None` if that line is among them.
 fn gap_between(end: usize, line: usize) -> Option<usize>
     ensures { MatchOption result (line < end) (λ gap. line ≡ end + gap) }
 {

@@ -1,7 +1,7 @@
 //! Laws of the effect of a primitive on a tree.
 ghost use Rattle.camp_prim.specs.Applied.{AppliedIsApplies, InverseLeadsBack};
 
-/// The tree that a primitive leads to is a function of the tree that it is applied to.
+/// A primitive leads from a tree to at most one tree.
 #[tactic(auto, using(crate::proofs::Applied::applied_is))]
 pub fn applied_is_applies()
     ensures law { AppliedIsApplies }

@@ -77,7 +77,7 @@ impl Hunk {
         self.body.path()
     }
 
-    /// Returns the line of the first old line, and then of the first new one.
+    /// Returns the line at which the hunk applies, counted from 1.
     pub fn line(&self) -> u32
         ensures value { result ≡ self.now.line }
         ensures in_range { IsInRange self.now }
@@ -162,7 +162,7 @@ impl Hunk {
         is_in_range(line, self.old_len(), self.new_len())
     }
 
-    /// Moves the hunk to another line.
+    /// Sets the line of the hunk.
     pub(crate) fn move_to(&mut self, line: u32)
         requires { IsInRange (at_line line self.now) }
         ensures { self.exit.now ≡ at_line line self.entry.now }
@@ -170,8 +170,8 @@ impl Hunk {
         self.line = line;
     }
 
-    /// Copies the hunk. Increments one reference count if the hunk is shared or itself a copy; else copies the
-    /// handles of the lines into a new allocation.
+    /// Copies the hunk. A hunk that is shared, or is a copy, has its reference count incremented; of any other the
+    /// lines are copied as handles into a new allocation.
     pub fn try_clone(&self) -> Result<Hunk, AllocError>
         ensures exact { IfOk result (λ copy. copy ≡ self.now) }
     {

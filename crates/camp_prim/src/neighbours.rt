@@ -9,8 +9,8 @@ use crate::commuting::targets_of;
 use crate::labels::have_same_key;
 use crate::{Named, Primitive};
 
-/// Commutes `p` and then `q` in place: `p` becomes what it is after `q`, and `q` what it is before `p`. The
-/// caller exchanges the two. False if they do not commute; both are then unchanged. Does not allocate.
+/// Commutes `p` and then `q` in place: `p` becomes what it is after `q`, and `q` what it is before `p`; the caller
+/// exchanges the two. False if they do not commute; both are then unchanged. Does not allocate.
 pub fn commute_in_place(p: &mut Named, q: &mut Named) -> bool
     ensures exact { Changes CommutesInPlace (p.old, q.old) result (p.new, q.new) }
 {
@@ -27,7 +27,7 @@ pub fn commute_in_place(p: &mut Named, q: &mut Named) -> bool
     }
 }
 
-/// Moves a hunk to a line, if one is given.
+/// Moves a hunk to another line, if one is given.
 fn move_to(p: &mut Primitive, line: Option<u32>)
     requires { InRange (moved line p.old) }
     ensures { p.new ≡ moved line p.old }

@@ -21,9 +21,9 @@ pub enum Primitive {
 }
 
 impl Primitive {
-    /// Makes the hunk that replaces old lines by new ones at a line of a file, counted from 1. `None` if the
-    /// line is 0, if both sides are empty, or if the line and the counts of old and of new lines add up to
-    /// more than 2^30. Does not allocate: the hunk keeps the vectors as they are.
+    /// Makes the hunk that replaces old lines by new ones at a line of a file, counted from 1. `None` if the line is 0,
+    /// if both sides are empty, or if the line and the counts of old and of new lines add up to more than 2^30. Does
+    /// not allocate: the hunk takes over the vectors.
     pub fn hunk(path: Path, line: u32, old: Vec<Line>, new: Vec<Line>) -> Option<Primitive>
         ensures exact { MatchOption result (¬ (IsInRange (hunk_of path line old.items new.items)))
             (λ made. IsInRange (hunk_of path line old.items new.items) × (made ≡ Primitive.Hunk (hunk_of path line old.items new.items))) }
@@ -32,9 +32,7 @@ impl Primitive {
         Some(Primitive::Hunk(hunk))
     }
 
-    /// Makes the change reference counted, so that no copy of it allocates. A copy of a hunk that `hunk` made
-    /// copies the handles of its lines; this takes the vectors instead. If memory runs out, the change is
-    /// dropped.
+    /// Makes the change reference counted, so that no copy of it allocates. If memory runs out, the change is dropped.
     pub fn into_shared(self, alloc: Global) -> Result<Primitive, AllocError>
         ensures exact { IfOk result (λ shared. shared ≡ self) }
     {
@@ -67,7 +65,7 @@ impl Primitive {
         }
     }
 
-    /// Copies the change. Allocates only if it is a hunk as `hunk` made it, which is not shared yet.
+    /// Copies the change. Allocates only for a hunk that is not yet reference counted.
     pub fn try_clone(&self) -> Result<Primitive, AllocError>
         ensures exact { IfOk result (λ copy. copy ≡ self.now) }
     {

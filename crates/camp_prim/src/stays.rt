@@ -39,7 +39,7 @@ pub fn commutes(p: &Named, q: &Named) -> bool
     }
 }
 
-/// True if moving a primitive to a line, if one is given, leaves it unchanged.
+/// True if a primitive is already at a line, if one is given.
 fn stays_at(p: &Primitive, line: Option<u32>) -> bool
     ensures { IsTrue result ↔ (moved line p.now ≡ p.now) }
 {

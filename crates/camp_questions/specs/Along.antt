@@ -13,19 +13,20 @@ use Rattle.camp_questions.specs.Dependencies.{AreGrown, CanMoveToFront, AreBlock
 use Rattle.camp_questions.specs.declared.faults.Unanswered.{Unanswered}
 use Rattle.camp_questions.specs.declared.faults.Unanswered.TheVariants.{Refused, Memory}
 
--- the patches that a pull of these names has to list: those of the names that `to` lacks, and, while they cannot be
--- moved to the front of what `from` has after the common patches, each patch that blocks them; from <-> common behind
+-- the patches that a pull of these names has to list: those of the names that `to` lacks and, as long as these cannot
+-- be moved to the front of what `from` has after the common patches, each patch that blocks them; from <-> common
+-- behind
 abbrev pub ComesAlong : List Catch → List Catch → List (List ℕ) → List (List ℕ) → Type 0
 ComesAlong from to names told =
     (common : List Catch) × (behind : List Catch) × Arrange (common_names from to) from common behind
     × AreGrown from (CanMoveToFront behind) (AreBlockedBy behind) (wanted to names) told
 
--- the patches that both branches have can't be moved to the front of `from`: the one of this name is blocked
+-- the common patches can't be moved to the front of `from`: the one of this name is blocked
 abbrev pub HaveDiverged : List Catch → List Catch → List ℕ → Type 0
 HaveDiverged from to name =
     (stuck : Key) × (on : Key) × ArrangeIsBlocked (common_names from to) from stuck on × (name ≡ stuck.name)
 
--- the names to pull, or the refusal if the branches have diverged
+-- the answer: the names to pull, or the refusal if the branches have diverged
 abbrev pub AlongOr : List Catch → List Catch → List (List ℕ) → AnswerOf (List (List ℕ)) → Type 0
 AlongOr from to names answer =
     ((told : List (List ℕ)) × (answer ≡ Ok told) × ComesAlong from to names told)
@@ -35,14 +36,14 @@ AlongOr from to names answer =
 abbrev pub OfTwo : {A : Type 0} → List ℕ → List ℕ → (AnswerOf A → Type 0) → AnswerOf A → Type 0
 OfTwo from to GoesOn answer = ((from ≡ to) × (answer ≡ Err (SameBranch to))) ⊎ ((from ≢ to) × GoesOn answer)
 
--- the question which names a pull of these has to list
+-- the question which patches a pull of these names has to list
 abbrev pub AreAlong : Contents → List ℕ → List ℕ → List (List ℕ) → AnswerOf (List (List ℕ)) → Type 0
 AreAlong state from to names =
     OfBranch state from (λ theirs. OfBranch state to (λ ours.
     OfTwo from to (OfPatches theirs names (AlongOr theirs ours names))))
 
 -- the question may run out of memory: both branches exist, they differ, and the first has the patches. Before these
--- tests it does not allocate; after them it may run out of memory even if the branches have diverged.
+-- tests it does not allocate; after them it may run out of memory even if the branches turn out to have diverged.
 pub record MayBeTried (state : Contents) (from to : List ℕ) (names : List (List ℕ)) : Type 0 where
   pub theirs : List Catch
   pub ours : List Catch
@@ -51,7 +52,7 @@ pub record MayBeTried (state : Contents) (from to : List ℕ) (names : List (Lis
   pub are_two : from ≢ to
   pub has : first_lacked theirs names ≡ None
 
--- the result of the question
+-- the reported result of the question
 abbrev pub ReportsAlong : Contents → List ℕ → List ℕ → List (List ℕ) → Result (List (List ℕ)) Unanswered → Type 0
 ReportsAlong state from to names (Ok told) = AreAlong state from to names (Ok told)
 ReportsAlong state from to names (Err (Refused refusal)) = AreAlong state from to names (Err refusal)

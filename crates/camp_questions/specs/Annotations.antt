@@ -18,18 +18,18 @@ use Rattle.camp_questions.specs.CommonLines.{common_end, common_front}
 use Rattle.camp_questions.specs.declared.annotations.Annotated.{Annotated}
 use Rattle.camp_questions.specs.declared.annotations.Annotated.TheVariants.{File, NoFile}
 
--- the state of an annotation along the effects of a branch: for each line of a file the name of the patch that added
+-- the state of an annotation after some effects of a branch: for each line of a file the name of the patch that added
 -- it, and for the absolute label of each hunk the names of the lines that it removed
 pub record Known : Type 0 where
   pub names : List (List ℕ)
   pub taken : FinMap key_cmp (List (List ℕ))
 
--- the state before the first effect: nothing is known
+-- the state before the first effect: no line and no hunk has names
 abbrev pub nothing_known : Known
 nothing_known = record { names = []; taken = empty }
 
--- the names that a hunk gives to its new lines: lines that are on both of its sides at the start or, after those, at
--- the end keep their names; all others have the name of the patch
+-- the names that a hunk gives to its new lines: those that are on both of its sides at the start or, of the rest, at
+-- the end keep their names; all others get the name of the patch
 abbrev pub own_names : List (List ℕ) → List ℕ → Edit → List (List ℕ)
 own_names gone name hunk =
     let front = common_front hunk.old hunk.new in
@@ -55,7 +55,7 @@ known_after_hunk name key hunk known =
       taken = insert known.taken key gone;
     }
 
--- the state after a change, for the file of a path: only hunks of this file change it
+-- the state after a change, in an annotation of the file of this path: only hunks of that file change it
 abbrev pub known_after_change : List ℕ → List ℕ → Key → Primitive → Known → Known
 known_after_change path name key (Add other) known = known
 known_after_change path name key (Remove other) known = known
@@ -83,7 +83,7 @@ abbrev pub annotated : Option Lines → List (List ℕ) → Annotated
 annotated None names = NoFile
 annotated (Some lines) names = File lines names
 
--- the answer for a path of a branch: the lines that its tree has there, and their names
+-- the answer for a path of a branch: the lines that its tree has there, with their names
 abbrev pub Annotates : List Catch → List ℕ → Annotated → Type 0
 Annotates branch path told =
     (tree : Files) × LeadsTo branch tree × (told ≡ annotated (get tree path) (names_of_lines path branch))

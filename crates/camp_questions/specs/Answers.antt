@@ -8,7 +8,7 @@ use Rattle.camp_repo.specs.States.{Contents, catches_of}
 use Rattle.camp_questions.specs.declared.faults.Unanswered.{Unanswered}
 use Rattle.camp_questions.specs.declared.faults.Unanswered.TheVariants.{Refused, Memory}
 
--- the result of a question: its answer, or a refusal of the same kind as those of calls
+-- the result of a question by its definition: an answer, or a refusal of the same kind as those of calls
 abbrev pub AnswerOf : Type 0 → Type 0
 AnswerOf A = Result A Refusal
 
@@ -22,14 +22,15 @@ abbrev pub OfPatches : {A : Type 0} → List Catch → List (List ℕ) → (Answ
 OfPatches catches names GoesOn answer =
     MatchOption (first_lacked catches names) (GoesOn answer) (λ name. answer ≡ Err (NoPatch name))
 
--- the reported result is the one defined; out of memory is reported only if there is an answer, and no refusal
+-- the reported result is the defined one; out of memory may be reported instead of an answer, but not instead of a
+-- refusal
 abbrev pub ReportsAnswer : {A : Type 0} → (AnswerOf A → Type 0) → Result A Unanswered → Type 0
 ReportsAnswer ComesTo (Ok answer) = ComesTo (Ok answer)
 ReportsAnswer ComesTo (Err (Refused refusal)) = ComesTo (Err refusal)
 ReportsAnswer {A} ComesTo (Err Memory) = (answer : A) × ComesTo (Ok answer)
 
--- `ReportsAnswer` for a question that allocates before its answer is known: out of memory is reported only if the question is
--- not refused
+-- `ReportsAnswer` for a question that allocates before its result is known: out of memory may be reported unless the
+-- question is refused before it allocates
 abbrev pub ReportsAnswerOrMemory : {A : Type 0} → (AnswerOf A → Type 0) → Result A Unanswered → Type 0
 ReportsAnswerOrMemory ComesTo (Ok answer) = ComesTo (Ok answer)
 ReportsAnswerOrMemory ComesTo (Err (Refused refusal)) = ComesTo (Err refusal)

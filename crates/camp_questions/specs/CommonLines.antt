@@ -13,8 +13,8 @@ common_front (line ∷ lines) (other ∷ others) = if bytes_eq line other then s
 abbrev pub common_end : Lines → Lines → ℕ
 common_end lines others = common_front (reverse lines) (reverse others)
 
--- the lines that a hunk adds: its new ones without those that are on both of its sides at the start or, after those,
--- at the end
+-- the lines that a hunk adds: its new ones without those that are on both of its sides at the start or, of the rest, at
+-- the end
 abbrev pub brought_by : Edit → Lines
 brought_by hunk =
     let front = common_front hunk.old hunk.new in

@@ -18,7 +18,7 @@ CanMoveToFront branch names = (first : List Catch) × (rest : List Catch) × Arr
 abbrev pub AreBlockedBy : List Catch → List (List ℕ) → List ℕ → Type 0
 AreBlockedBy branch names name = (patch : Key) × (on : Key) × ArrangeIsBlocked names branch patch on × (name ≡ on.name)
 
--- the patches of these names can be taken out of a branch
+-- the patches of these names can be taken out of a branch: no other patch depends on one of them
 abbrev pub CanGo : List Catch → List (List ℕ) → Type 0
 CanGo branch names = (left : List Catch) × ObliterateGives branch names (Ok left)
 
@@ -26,17 +26,18 @@ CanGo branch names = (left : List Catch) × ObliterateGives branch names (Ok lef
 abbrev pub AreHeldIn : List Catch → List (List ℕ) → List ℕ → Type 0
 AreHeldIn branch names name = (on : List ℕ) × ObliterateGives branch names (Err (Depends name on))
 
--- the names that are added one by one until `Done` holds: each next one stops the names there so far
+-- names are added to a list one by one, each because it stops `Done` from holding of the list so far, until `Done`
+-- holds
 abbrev pub AreAdded :
     (List (List ℕ) → Type 0) → (List (List ℕ) → List ℕ → Type 0) → List (List ℕ) → List (List ℕ) → Type 0
 AreAdded Done Stops names [] = Done names
 AreAdded Done Stops names (name ∷ added) = Stops names name × AreAdded Done Stops (names ++ name ∷ []) added
 
--- the names of the patches of a branch that are among these, in the order of the branch
+-- those of these names that are names of patches of a branch, in the order of the branch
 abbrev pub in_order : List Catch → List (List ℕ) → List (List ℕ)
 in_order branch names = filter (is_among names) (names_of branch)
 
--- `grown` has the names and those that are added one by one, in the order of a branch
+-- `grown` has the names and those that `AreAdded` adds, in the order of a branch
 abbrev pub AreGrown :
     List Catch → (List (List ℕ) → Type 0) → (List (List ℕ) → List ℕ → Type 0) → List (List ℕ) → List (List ℕ) → Type 0
 AreGrown branch Done Stops names grown =
@@ -52,8 +53,8 @@ Needs branch names needed = AreGrown branch (CanMoveToFront branch) (AreBlockedB
 abbrev pub HeldBy : List Catch → List (List ℕ) → List (List ℕ) → Type 0
 HeldBy branch names held = AreGrown branch (CanGo branch) (AreHeldIn branch) names held
 
--- a question about patches of a branch, answered by the names to which a relation leads; refused if the branch lacks
--- one of the patches
+-- a question about patches of a branch, whose answer is related to their names; refused if the branch lacks one of the
+-- patches
 abbrev pub OfNames :
     (List Catch → List (List ℕ) → List (List ℕ) → Type 0) → Contents → List ℕ → List (List ℕ)
     → AnswerOf (List (List ℕ)) → Type 0

@@ -20,7 +20,7 @@ branch_written (call.Pull from to names) = Some to
 branch_written (call.Obliterate branch names) = Some branch
 branch_written other = None
 
--- the state of a branch: the tree and the conflicts with which questions for them are answered
+-- the answers of a branch to the questions for its tree and its conflicts
 pub record IsBranchState (state : Contents) (standing : BranchState) : Type 0 where
   pub tree : step state (call.Tree standing.branch) ≡ Answer (reply.Tree standing.tree)
   pub conflicts : step state (call.Conflicts standing.branch) ≡ Answer (reply.Conflicts standing.conflicts)
@@ -30,15 +30,15 @@ abbrev pub AreOpenThere : Contents → List ℕ → List (List ℕ × List ℕ) 
 AreOpenThere state branch pairs =
     MatchOption (catches_of state.branches branch) (pairs ≡ []) (λ catches. AreOpenIn catches pairs)
 
--- one of some pairs has the same two names
+-- a pair with the same two names is in a list
 abbrev pub is_pair_among : List (List ℕ × List ℕ) → List ℕ × List ℕ → Bool
 is_pair_among pairs pair = list_any (λ other. bytes_eq pair.0 other.0 && bytes_eq pair.1 other.1) pairs
 
--- the pairs that are not among others, in their order
+-- those of some pairs that are not in another list, in their order
 abbrev pub pairs_without : List (List ℕ × List ℕ) → List (List ℕ × List ℕ) → List (List ℕ × List ℕ)
 pairs_without others pairs = filter (λ pair. not (is_pair_among others pair)) pairs
 
--- from one state to the next, these conflicts of a branch become unresolved, and these are resolved
+-- from one state to the next, these conflicts of a branch become unresolved, and those are resolved or disappear
 pub record OpensAndResolves (state next : Contents) (branch : List ℕ) (opened resolved : List (List ℕ × List ℕ)) : Type 0 where
   pub before : List (List ℕ × List ℕ)
   pub after : List (List ℕ × List ℕ)
@@ -47,8 +47,8 @@ pub record OpensAndResolves (state next : Contents) (branch : List ℕ) (opened 
   pub opens : opened ≡ pairs_without before after
   pub resolves : resolved ≡ pairs_without after before
 
--- a call would be accepted: its reply has the number of the next state. The branch that it writes to has this state
--- then, and these of its conflicts are unresolved then and not now, or now and not then.
+-- a call would be accepted: its reply has the number of the next state. The branch that it writes to then has this
+-- state; these of its conflicts become unresolved, and those no longer are.
 pub record IsAcceptedSo (call : Call) (state next : Contents) (seen : Foreseen) : Type 0 where
   pub told : seen.reply ≡ reply.Done next.count
   pub standing : BranchState
@@ -57,8 +57,8 @@ pub record IsAcceptedSo (call : Call) (state next : Contents) (seen : Foreseen) 
   pub stands : IsBranchState next standing
   pub changes : OpensAndResolves state next standing.branch standing.opened standing.resolved
 
--- the foreseen result of a call at a state, given its decision: if it is accepted, its reply and the branch that it
--- writes to; else the reply alone
+-- the foreseen result of a call, given its decision: if it is accepted, its reply and the branch that it writes to;
+-- else the reply alone
 abbrev pub ForeseesOf : Contents → Call → Decision → Foreseen → Type 0
 ForeseesOf state call (Next next) seen = IsAcceptedSo call state next seen
 ForeseesOf state call (Answer answer) seen = (seen.reply ≡ answer) × (seen.changed ≡ None)
@@ -67,6 +67,6 @@ ForeseesOf state call (Answer answer) seen = (seen.reply ≡ answer) × (seen.ch
 abbrev pub Foresees : Contents → Call → Foreseen → Type 0
 Foresees state call seen = ForeseesOf state call (step state call) seen
 
--- foreseeing a call may run out of memory if the call may, or if it is accepted
+-- foreseeing a call may run out of memory if the call itself may, or if it would be accepted
 abbrev pub MayWantForesight : Contents → Call → Type 0
 MayWantForesight state call = CallMayWant state call ⊎ ((next : Contents) × (step state call ≡ Next next))

@@ -4,11 +4,11 @@ use Rattle.std.specs.List.{flat_map, list_any}
 use Rattle.camp_questions.specs.Pictures.{Picture}
 use Rattle.camp_questions.specs.declared.graphs.Node.{Node}
 
--- a name in quotes; no byte of a name has a special meaning there
+-- a name in quotes; DOT gives no byte of a name a special meaning there
 abbrev pub quoted : List ℕ → List ℕ
 quoted name = codes "\"" ++ name ++ codes "\""
 
--- two spaces, "NAME" -> "NAME", and the attributes at the end of the line
+-- a line of two names with an arrow or line between them and attributes after them
 abbrev pub arrow_text : List ℕ → List ℕ → List ℕ → List ℕ
 arrow_text name other behind = codes "  " ++ quoted name ++ codes " -> " ++ quoted other ++ behind ++ codes "\n"
 
@@ -24,7 +24,7 @@ conflict_style is_open =
     if is_open then codes " [dir=none, constraint=false, color=red, style=bold];"
     else codes " [dir=none, constraint=false, color=rosybrown2, style=dashed];"
 
--- a pair is in a list of pairs
+-- a pair of names is in a list
 abbrev pub is_pair_among : List (List ℕ × List ℕ) → List ℕ × List ℕ → Bool
 is_pair_among pairs pair = list_any (λ other. bytes_eq pair.0 other.0 && bytes_eq pair.1 other.1) pairs
 
@@ -32,7 +32,7 @@ is_pair_among pairs pair = list_any (λ other. bytes_eq pair.0 other.0 && bytes_
 abbrev pub conflict_text : List (List ℕ × List ℕ) → List ℕ × List ℕ → List ℕ
 conflict_text pairs pair = arrow_text pair.0 pair.1 (conflict_style (is_pair_among pairs pair))
 
--- the header: from left to right a patch, its dependencies, and theirs, with names in boxes
+-- the first lines of a graph: layers run from left to right, each patch before its dependencies; names stand in boxes
 abbrev pub heading : List ℕ
 heading =
     codes "digraph {\n  rankdir=LR;\n  node [shape=box, style=rounded, height=0.3];\n  edge [color=gray50, arrowsize=0.6];\n"

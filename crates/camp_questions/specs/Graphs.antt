@@ -9,7 +9,7 @@ use Rattle.camp_questions.specs.Answers.{AnswerOf, OfBranch}
 use Rattle.camp_questions.specs.Dependencies.{Needs}
 use Rattle.camp_questions.specs.declared.graphs.Node.{Node}
 
--- a patch with the names of all its dependencies, and its own
+-- a patch, and the names of its dependencies and of itself
 pub record Needing : Type 0 where
   pub name : List ℕ
   pub needs : List (List ℕ)
@@ -37,7 +37,7 @@ abbrev pub node_of : List Catch → List Needing → Needing → Node
 node_of branch all patch =
     record { name = patch.name; needs = filter (needs_directly all patch) (names_of branch) }
 
--- patches with their dependencies, and the pairs of those that are in conflict
+-- patches with their direct dependencies, and the pairs of those that are in conflict
 pub record Drawn : Type 0 where
   pub patches : List Node
   pub conflicts : List (List ℕ × List ℕ)

@@ -49,8 +49,8 @@ use Rattle.camp_questions.specs.declared.foresight.Foreseen.{Foreseen}
 use Rattle.camp_questions.specs.declared.foresight.BranchState.{BranchState}
 use Rattle.camp_questions.specs.declared.graphs.Node.{Node}
 
--- a pull without names that is accepted appends to a branch the names that it was missing; if it misses none, such a
--- pull has nothing to do
+-- an accepted pull without names appends to a branch the patches that it lacks, in this order; if it lacks none, the
+-- pull is refused as having nothing to do
 pub record MissingIsPulled : Type 0 where
   pub comes :
       (state next : Contents) (from to : List ℕ) (theirs ours new : List Catch) → IsLawfulState state →
@@ -61,22 +61,22 @@ pub record MissingIsPulled : Type 0 where
       Has state from theirs → Has state to ours → from ≢ to → missing_in ours theirs ≡ [] →
       step state (call.Pull from to None) ≡ refused NothingToDo
 
--- each of some names is among others
+-- all of some names are among others
 abbrev pub AreAmong : List (List ℕ) → List (List ℕ) → Type 0
 AreAmong names others = (name : List ℕ) → is_among names name ≡ true → is_among others name ≡ true
 
--- a name was added while names grew: it stops some set of names between the first ones and the grown ones
+-- a name was added on the way from the first names to the grown ones: it stops a set of names between the two
 abbrev pub WasMet : (List (List ℕ) → List ℕ → Type 0) → List (List ℕ) → List (List ℕ) → List ℕ → Type 0
 WasMet Stops names grown name =
     (between : List (List ℕ)) × AreAmong names between × AreAmong between grown × Stops between name
 
--- the grown names have all that they grew from, and each further one was added on the way
+-- the grown names contain the first ones, and each further name was added on the way
 pub record GrewFrom (Stops : List (List ℕ) → List ℕ → Type 0) (names grown : List (List ℕ)) : Type 0 where
   pub has : AreAmong names grown
   pub met :
       (name : List ℕ) → is_among grown name ≡ true → is_among names name ≡ false → WasMet Stops names grown name
 
--- the dependencies of patches of a branch can be moved to its front, and have grown from the patches by what blocks
+-- the dependencies of patches can be moved to the front of their branch, and have grown from the patches by what blocks
 -- them
 abbrev pub NeedsComeFirst : Type 0
 NeedsComeFirst =
@@ -122,8 +122,8 @@ NeedsAndHeldAreOne =
     has_patch branch name ≡ true → has_patch branch other ≡ true → Needs branch (other ∷ []) needed →
     HeldBy branch (name ∷ []) held → (is_among needed name ≡ true) ↔ (is_among held other ≡ true)
 
--- an obliteration of patches of a branch together with their dependents is accepted, and these have grown from the
--- patches by what depends on them
+-- an obliteration of patches of a branch together with their dependents is accepted, and the dependents have grown from
+-- the patches by what depends on them
 abbrev pub HeldCanGo : Type 0
 HeldCanGo =
     (state : Contents) (name : List ℕ) (branch : List Catch) (names held : List (List ℕ)) → Has state name branch →
@@ -134,8 +134,8 @@ HeldCanGo =
 abbrev pub HeldIsDetermined : Type 0
 HeldIsDetermined = (branch : List Catch) (names : List (List ℕ)) → ExactlyOne (HeldBy branch names)
 
--- each line of a file has a name, and each name is that of a patch of the branch; undoing a hunk gives all lines the
--- names that they had
+-- each line of a file has a name, which is that of a patch of the branch; undoing a hunk gives all lines the names that
+-- they had before it
 pub record LinesHaveNames : Type 0 where
   pub each :
       (branch : List Catch) (path : List ℕ) (tree : Files) (lines : Lines) → LeadsTo branch tree →
@@ -160,7 +160,7 @@ PutsBack hunk (Add path) = Unit {0}
 PutsBack hunk (Remove path) = Unit {0}
 PutsBack hunk (Hunk other) = other.path ≡ hunk.path → other.new ≡ hunk.old
 
--- wherever the absolute label of a hunk occurs again in the list, the primitive restores the lines that the hunk
+-- wherever the absolute label of a hunk occurs again in a list, the primitive there restores the lines that the hunk
 -- removed
 abbrev pub ComeAgainAsInverses : List Named → Type 0
 ComeAgainAsInverses [] = Unit {0}
@@ -175,7 +175,7 @@ EachIsBrought branch path =
     AllZip (IsBrought branch path) names lines
 
 -- each line was added by the patch whose name it has, if primitives that occur again in the effects of a branch only
--- restore what was removed; in a lawful branch of plain catches they do
+-- restore removed lines; in a lawful branch of plain catches none occurs again
 pub record LinesAreBrought : Type 0 where
   pub come_again :
       (branch : List Catch) (path : List ℕ) → ComeAgainAsInverses (flat_map effect_of branch) → EachIsBrought branch path
@@ -187,8 +187,8 @@ abbrev pub AnnotateAlike : List Catch → List Catch → Type 0
 AnnotateAlike branch other =
     (path : List ℕ) (told : Annotated) → Annotates branch path told ↔ Annotates other path told
 
--- plain patches give the same answer in whatever order they are: after commutes of neighbours, and after a reordering
--- by labels
+-- the answer for plain patches does not depend on their order: neighbours may be commuted, and the list put in the
+-- order of given labels
 pub record OrderKeepsNames : Type 0 where
   pub swapped :
       (patches others : List Named) → patches ~ others → AnnotateAlike (map Plain patches) (map Plain others)
@@ -238,7 +238,8 @@ ArrowsLeadBackwards =
     (branch : List Catch) (graph : Drawn) → IsLawfulBranch branch → IsGraph branch graph → (name other : List ℕ) →
     Arrow graph name other → StandsBefore (names_of branch) other name
 
--- the patches reached from a patch along arrows: itself, and those reached from the heads of its arrows
+-- the patches that are reached along arrows from a patch: itself, and all that are reached from those to which its
+-- arrows lead
 pub data IsReached : Drawn → List ℕ → List ℕ → Type 0 where
   itself : {graph : Drawn} {name : List ℕ} → IsReached graph name name
   along : {graph : Drawn} {name between other : List ℕ} → Arrow graph name between → IsReached graph between other → IsReached graph name other
@@ -251,7 +252,7 @@ NeedsAreReached =
     IsPlain branch → IsGraph branch graph → has_patch branch name ≡ true → Needs branch (name ∷ []) needed →
     (other : List ℕ) → (is_among needed other ≡ true) ↔ IsReached graph name other
 
--- along arrows, a patch is reached from one of some names, or one of these is reached from it
+-- along arrows, a patch is reached from one of some names, or one of these from it
 abbrev pub HangTogether : Drawn → List (List ℕ) → List ℕ → Type 0
 HangTogether graph names other =
     (name : List ℕ) × (is_among names name ≡ true) × (IsReached graph name other ⊎ IsReached graph other name)
@@ -275,8 +276,8 @@ KeepFilesShort [] tree = Unit {0}
 KeepFilesShort (change ∷ changes) tree =
     (next : Files) → Applies change tree next → (has_long_file (path_of change) next ≡ false) × KeepFilesShort changes next
 
--- a record of the changes of a side, under a name that no branch has, is accepted if the patch and the branch do not
--- get too many changes, and no side of a hunk and no file too many lines. If it is refused, it is too large.
+-- a record of the changes of a side, under a name that no branch has, is accepted if the branch and the patch do not
+-- get too many changes, and no side of a hunk and no file too many lines; it is refused only as too large
 pub record SidesAreAccepted : Type 0 where
   pub within :
       (state : Contents) (branch name new_name : List ℕ) (catches : List Catch) (tree : Files) (side : List Named) →
@@ -298,8 +299,8 @@ AlongIsEnough =
     × ((patch on : List ℕ) → ¬ (step state (call.Pull from to (Some told)) ≡ refused (Depends patch on)))
 
 -- a call does what was foreseen: it gets the foreseen reply. If no branch was foreseen, nothing changes. If one was,
--- the questions for its tree and its conflicts, asked directly after the call, have the foreseen answers, and the
--- unresolved conflicts that the branch has after it and not before, and before it and not after, are the foreseen ones.
+-- its questions for tree and conflicts, asked directly after the call, have the foreseen answers, and exactly the
+-- foreseen conflicts become unresolved, or no longer are.
 pub record ComesAsForeseen (state : Contents) (asked : Call) (seen : Foreseen) : Type 0 where
   pub replied : reply_of (step state asked) ≡ seen.reply
   pub stays : seen.changed ≡ None → state_after_decision state (step state asked) ≡ state

@@ -23,28 +23,28 @@ abbrev pub MakesVersion : ContextedPatches → Files → List ℕ → List ℕ �
 MakesVersion seen tree path name made =
     (side : List Named) × (next : Files) × IsSideAmong seen name side × AppliesAll side tree next × (made ≡ get next path)
 
--- versions, after that of one more patch if it would make a file that differs from the present one
+-- the list of versions with that of one more patch, if it differs from the present file
 abbrev pub with_made : Lines → List ℕ → Option Lines → List Version → List Version
 with_made lines name None versions = versions
 with_made lines name (Some made) versions =
     if pointwise bytes_eq lines made then versions else record { name = name; lines = made } ∷ versions
 
--- the versions that patches would make of a file, in their order
+-- the versions that patches would make of a file, in the order of the patches
 abbrev pub AreVersions : ContextedPatches → Files → List ℕ → Lines → List (List ℕ) → List Version → Type 0
 AreVersions seen tree path lines [] versions = versions ≡ []
 AreVersions seen tree path lines (name ∷ names) versions =
     (made : Option Lines) × (others : List Version) × MakesVersion seen tree path name made
     × AreVersions seen tree path lines names others × (versions ≡ with_made lines name made others)
 
--- a name is in one of some pairs
+-- a name is in one of these pairs
 abbrev pub is_in_pair : List (List ℕ × List ℕ) → List ℕ → Bool
 is_in_pair pairs name = list_any (λ pair. bytes_eq name pair.0 || bytes_eq name pair.1) pairs
 
--- the names of the patches of a branch that are in one of some pairs
+-- the names of those patches of a branch that are in one of these pairs
 abbrev pub names_in_pairs : List Catch → List (List ℕ × List ℕ) → List (List ℕ)
 names_in_pairs branch pairs = filter (is_in_pair pairs) (names_of branch)
 
--- a file of a branch is marked with the versions that its patches in unresolved conflicts would make of it
+-- a file of a branch with the versions that its patches in unresolved conflicts would make of it
 abbrev pub IsMarked : List Catch → Files → List ℕ → Lines → File → Type 0
 IsMarked branch tree path lines file =
     (seen : ContextedPatches) × (pairs : List (List ℕ × List ℕ)) × (versions : List Version)

@@ -14,21 +14,21 @@ use Rattle.camp_repo.specs.States.{Contents}
 use Rattle.camp_questions.specs.Answers.{AnswerOf, OfBranch}
 use Rattle.camp_questions.specs.Sides.{AreSeen}
 
--- a context has an inverse: to insert the patch, something in the tree has to be undone
+-- a context has an inverse: something in the tree has to be undone before the patch can be inserted
 abbrev pub takes_back : ContextedPatch → Bool
 takes_back x = list_any (λ p. p.inverse) x.context
 
--- nothing has to be undone to insert the contexted patch
+-- a contexted patch can be inserted without undoing anything
 abbrev pub is_free : Option ContextedPatch → Bool
 is_free None = false
 is_free (Some x) = not (takes_back x)
 
--- a label is unresolved: it is in conflict, and nothing has to be undone to insert its patch
+-- a label is unresolved: it is in conflict, and its patch can be inserted without undoing anything
 abbrev pub is_open : ContextedPatches → Key → Bool
 is_open seen key = is_free (get seen key)
 
--- a catch of the patch of one name is a conflictor with a member of the patch of the other in its set, and both
--- labels are unresolved
+-- a catch of the first patch is a conflictor with a member of the second patch in its set, and both labels are
+-- unresolved
 abbrev pub OpensWith : ContextedPatches → List ℕ → List ℕ → Catch → Type 0
 OpensWith seen first second (Plain a) = ⊥
 OpensWith seen first second (Catch.Conflictor k) =

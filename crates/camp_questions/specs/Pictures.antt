@@ -1,4 +1,4 @@
--- Graphs of branches with their unresolved conflicts.
+-- Graphs of branches with their unresolved conflicts marked.
 use Rattle.std.specs.Prelude.{◌≡◌, ℕ, Bool, ◌&&◌, List, [], ◌∷◌, ◌++◌, map, filter, Ok, if◌then◌else◌}
 use Rattle.std.specs.List.{list_any}
 use Rattle.camp_branch.specs.Branches.{is_among}
@@ -15,35 +15,35 @@ pub record Picture : Type 0 where
   pub conflicts : List (List ℕ × List ℕ)
   pub unsettled : List (List ℕ × List ℕ)
 
--- names, with the direct dependencies of a patch added if it is one of them
+-- names and, if a patch is among them, the patch's direct dependencies
 abbrev pub with_needs_of : Node → List (List ℕ) → List (List ℕ)
 with_needs_of node names = if is_among names node.name then names ++ node.needs else names
 
--- names and their dependencies: from the last patch to the first, each that is one of them adds its direct
+-- names and all their dependencies, found from the last patch to the first: each that is among them adds its direct
 -- dependencies
 abbrev pub with_needs : List Node → List (List ℕ) → List (List ℕ)
 with_needs [] names = names
 with_needs (node ∷ nodes) names = with_needs_of node (with_needs nodes names)
 
--- names, with a patch added if it depends directly on one of them
+-- names and, if a patch depends directly on one of them, the patch itself
 abbrev pub with_needing_one : List (List ℕ) → Node → List (List ℕ)
 with_needing_one names node = if list_any (is_among names) node.needs then names ++ node.name ∷ [] else names
 
--- names and their dependents: from the first patch to the last, each that depends directly on one of them is added
+-- names and all their dependents, found from the first patch to the last: each that depends directly on one of them is
+-- added
 abbrev pub with_needing : List Node → List (List ℕ) → List (List ℕ)
 with_needing [] names = names
 with_needing (node ∷ nodes) names = with_needing nodes (with_needing_one names node)
 
--- a patch is one of these, or a dependency or dependent of one of them
+-- a patch is one of these names, or a dependency or dependent of one
 abbrev pub hangs_on : List Node → List (List ℕ) → List ℕ → Bool
 hangs_on nodes names name = is_among (with_needs nodes names ++ with_needing nodes names) name
 
--- a patch with those arrows that lead to patches of the kept names
+-- a patch, with only those of its arrows that lead to kept names
 abbrev pub kept_node : (List ℕ → Bool) → Node → Node
 kept_node keeps node = record { name = node.name; needs = filter keeps node.needs }
 
--- the part of a graph with patches of some names only, with the arrows and pairs between these; all unresolved pairs
--- stay listed
+-- the part of a graph with only these patches, and the arrows and pairs between them; unresolved pairs stay listed
 abbrev pub part_with : (List ℕ → Bool) → Picture → Picture
 part_with keeps whole =
     record {
@@ -52,7 +52,7 @@ part_with keeps whole =
       unsettled = whole.unsettled;
     }
 
--- the part of a graph with these patches, their dependencies and dependents; the whole if no patch is given
+-- the part of a graph with these patches, their dependencies and dependents; the whole graph if no patch is given
 abbrev pub drawn_about : List (List ℕ) → Picture → Picture
 drawn_about [] whole = whole
 drawn_about (name ∷ names) whole = part_with (hangs_on whole.patches (name ∷ names)) whole

@@ -6,8 +6,8 @@ use Rattle.camp_questions.specs.CommonLines.{common_end, common_front}
 use Rattle.camp_questions.specs.declared.marking.Version.{Version}
 use Rattle.camp_questions.specs.declared.places.Range.{Range}
 
--- the range of a file that differs from another list of lines: without the common lines at the start and, after
--- those, at the end
+-- the range of a file where another list of lines differs: without the common lines at the start and, of the rest, at
+-- the end
 abbrev pub range_of : Lines → Lines → Range
 range_of lines others =
     let front = common_front lines others in
@@ -21,7 +21,7 @@ touch range other = nat_le range.from other.to && nat_le other.from range.to
 abbrev pub union_of : Range → Range → Range
 union_of range other = record { from = min range.from other.from; to = max range.to other.to }
 
--- adds a range to disjoint ranges in ascending order: those before it, the union with those that it touches, and
+-- disjoint ranges in ascending order with one more added: those before it, the union with those that it touches, and
 -- those after it
 abbrev pub with_range : List Range → Range → List Range
 with_range places range =
@@ -40,7 +40,7 @@ is_within range place = nat_le place.from range.from && nat_le range.to place.to
 abbrev pub differs_within : Lines → Range → Version → Bool
 differs_within lines place version = is_within (range_of lines version.lines) place
 
--- the lines of a version at a range of the file: without those before the range, and without as many at its end as
+-- the lines that a version has at a range of the file: those after the lines before the range, and before as many as
 -- the file has after the range
 abbrev pub at_range : Lines → Range → Version → Version
 at_range lines place version =
@@ -49,13 +49,13 @@ at_range lines place version =
       lines = slice_range version.lines place.from (length version.lines - (length lines - place.to));
     }
 
--- a hunk of a file: the context lines since the hunk above, its own lines, and the lines of the versions there
+-- a hunk of a file: the context lines after the hunk above, its own lines, and the lines of the versions there
 pub record MarkedHunk : Type 0 where
   pub before : Lines
   pub lines : Lines
   pub sides : List Version
 
--- a hunk with the context lines from an earlier line on
+-- a hunk whose context lines begin at this index
 abbrev pub hunk_from : Lines → List Version → ℕ → Range → MarkedHunk
 hunk_from lines versions at place =
     record {
@@ -64,7 +64,7 @@ hunk_from lines versions at place =
       sides = map (at_range lines place) (filter (differs_within lines place) versions);
     }
 
--- a file as hunks, and the lines after the last one
+-- a file as hunks, and the lines after the last hunk
 pub record File : Type 0 where
   pub places : List MarkedHunk
   pub rest : Lines

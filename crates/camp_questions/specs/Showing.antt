@@ -9,7 +9,7 @@ use Rattle.camp_repo.specs.States.{Contents}
 use Rattle.camp_repo.specs.Steps.{catches_named}
 use Rattle.camp_questions.specs.Answers.{AnswerOf, OfBranch, OfPatches}
 
--- the changes of an effect, in order
+-- the changes of an effect, without their labels
 abbrev pub changes_in : List Named → List Primitive
 changes_in effect = map (λ (p : Named). p.prim) effect
 

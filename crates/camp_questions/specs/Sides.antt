@@ -1,4 +1,4 @@
--- The side of a patch in conflict: the changes that would apply it at the end of a branch.
+-- The side of a patch in conflict: the changes that would apply the patch at the end of its branch.
 use Rattle.std.specs.Prelude.{◌≡◌, ℕ, Bool, true, false, List, [], ◌∷◌, ◌++◌, filter, Option, None, Some, MatchOption, Ok, bytes_eq, if◌then◌else◌}
 use Rattle.std.specs.FinMap.{get, values}
 use Rattle.std.specs.List.{AllByRecursion, flat_map, list_any}
@@ -17,18 +17,18 @@ use Rattle.camp_repo.specs.States.{Contents}
 use Rattle.camp_questions.specs.Answers.{AnswerOf, OfBranch, OfPatches}
 use Rattle.camp_questions.specs.Showing.{changes_in}
 
--- the contexted patch that a conflictor has under an absolute label: its identity, or the member of its set
+-- the contexted patch with this absolute label in a conflictor: its identity, or the member of its set
 abbrev pub contexted_in : Catch → Key → Option ContextedPatch
 contexted_in (Plain a) key = None
 contexted_in (Catch.Conflictor k) key =
     if eq_by_cmp key_cmp key (context_key k.identity) then Some k.identity else get k.conflicts key
 
--- none of the catches has a contexted patch under an absolute label
+-- no catch has a contexted patch with this absolute label
 abbrev pub HaveNoContexted : List Catch → Key → Type 0
 HaveNoContexted catches key = AllByRecursion (λ k. contexted_in k key ≡ None) catches
 
--- a label in conflict as seen from the end of a branch: the contexted patch that the last catch k with this label
--- has, with the inverses of the effects after k added; branch = before k behind
+-- a label in conflict, as seen from the end of a branch: the contexted patch that the last catch k with this label has,
+-- with the inverses of the effects after k added to it; branch = before k behind
 pub record IsSeen (branch : List Catch) (key : Key) (seen : ContextedPatch) : Type 0 where
   pub before : List Catch
   pub k : Catch
@@ -47,14 +47,14 @@ AreSeen branch seen = (key : Key) → MatchOption (get seen key) (HaveNoContexte
 abbrev pub has_key : List Named → Key → Bool
 has_key s key = list_any (λ p. eq_by_cmp key_cmp key (key_of (label_of p))) s
 
--- appends a contexted patch to changes: the inverses of the changes are added to it, and its context and patch come
--- after them. True leaves the changes as they are.
+-- true: changes stay as they are; false: the inverses of the changes are added to a contexted patch, and the resulting
+-- context and patch are appended
 abbrev pub AppendsUnless : Bool → List Named → ContextedPatch → List Named → Type 0
 AppendsUnless true changes x next = next ≡ changes
 AppendsUnless false changes x next =
     (y : ContextedPatch) × AddsAll (inverse_all changes) x y × (next ≡ changes ++ whole y)
 
--- appends a contexted patch to changes, unless they have its absolute label
+-- appends a contexted patch to changes, unless they have its absolute label already
 abbrev pub AppendsNew : List Named → ContextedPatch → List Named → Type 0
 AppendsNew changes x next = AppendsUnless (has_key changes (context_key x)) changes x next
 
@@ -64,7 +64,7 @@ AppendsEachNew changes [] side = side ≡ changes
 AppendsEachNew changes (x ∷ xs) side =
     (next : List Named) × AppendsNew changes x next × AppendsEachNew next xs side
 
--- the labels of a patch, in ascending place
+-- the labels in conflict of a patch, ordered by position
 abbrev pub labels_of_patch : List ℕ → ContextedPatches → List ContextedPatch
 labels_of_patch name seen = filter (λ x. bytes_eq name x.patch.name) (values seen)
 

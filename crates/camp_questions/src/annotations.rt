@@ -27,8 +27,8 @@ pub enum Annotated {
     NoFile,
 }
 
-/// Returns each line of the file of a path with the name of the patch that added it. The lines are shared
-/// with the tree of the branch.
+/// Returns the lines of the file at a path, each with the name of the patch that added it. The lines are shared with
+/// the tree of the branch.
 pub fn annotate(state: &State, branch: &Name, path: &Path) -> Result<Annotated, Unanswered>
     ensures exact { ReportsAnswer (AreAnnotated state.now branch.now path.now) result }
 {

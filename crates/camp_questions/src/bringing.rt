@@ -20,9 +20,8 @@ use camp_repo::{Branch, Names, Refusal, State};
 use camp_share::Shared;
 use std::alloc::{AllocError, Global};
 
-/// Returns the names that a pull of these from one branch into another has to list: those that `to` lacks,
-/// and each patch that blocks them on their way to the front of what `from` has after the common patches. In
-/// the order of `from`.
+/// Returns the names that a pull of these from one branch into another has to list, in the order of `from`: those that
+/// `to` lacks, and each patch that blocks them on their way to the front of what `from` has after the common patches.
 pub fn along(state: &State, from: &Name, to: &Name, names: &[Name]) -> Result<Names, Unanswered>
     ensures exact { ReportsAlong state.now from.now to.now names.now result }
 {
@@ -69,7 +68,7 @@ fn behind_common(from: &Branch, to: &Branch) -> Result<Vec<Shared<Catch>>, Unans
     }
 }
 
-/// Returns the names of the patches that both branches have.
+/// Returns the names of the common patches of two branches.
 fn common(from: &Branch, to: &Branch) -> Result<NameSet, AllocError>
     ensures { IfOk result (λ set. (name : List ℕ) → is_among (names_in set) name ≡ is_among (common_names from.now to.now) name) }
 {

@@ -33,7 +33,7 @@ pub fn file(
     answer_or_memory(file_at(branch.tree(), path))
 }
 
-/// Returns the lines of the file of a path, shared with the tree.
+/// Returns the lines of a file of a tree, shared with the tree.
 pub(crate) fn file_at(tree: &Tree, path: &Path) -> Result<Option<SharedList<Line>>, AllocError>
     ensures { IfOk result (λ lines. lines ≡ get tree.now path.now) }
 {

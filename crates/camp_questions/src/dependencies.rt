@@ -17,9 +17,8 @@ use camp_repo::{Branch, Names, State};
 use camp_share::Shared;
 use std::alloc::{AllocError, Global};
 
-/// Returns the dependencies of these names in a branch: the names themselves, and each patch that blocks them
-/// on their way to its front. In the order of the branch. A pull into another branch may need others, which
-/// `along` returns.
+/// Returns the dependencies of these names in a branch, in its order: the names themselves, and each patch that blocks
+/// them on their way to the front. A pull into another branch may need further patches, which `along` returns.
 pub fn needs(state: &State, branch: &Name, names: &[Name]) -> Result<Names, Unanswered>
     ensures exact { ReportsAnswer (AreNeeded state.now branch.now names.now) result }
 {
@@ -36,8 +35,8 @@ pub(crate) fn needed_in(branch: &Branch, names: &[Name]) -> Result<Names, AllocE
     in_order(branch, &needed)
 }
 
-/// Returns the names that must be taken out of a branch together with these: the names themselves, and each
-/// patch that depends on one of them. In the order of the branch.
+/// Returns the names that must be taken out of a branch together with these, in its order: the names themselves, and
+/// each patch that depends on one of them.
 pub fn held_by(state: &State, branch: &Name, names: &[Name]) -> Result<Names, Unanswered>
     ensures exact { ReportsAnswer (AreHeldBy state.now branch.now names.now) result }
 {
@@ -56,9 +55,8 @@ pub(crate) fn held_there(branch: &Branch, names: &[Name]) -> Result<Names, Alloc
     in_order(branch, &held)
 }
 
-/// Returns the names, and those that are added until all can be moved to the front of the branch. If all its
-/// patches are plain and certainly have headroom, these are the dependents of the names in the inverted
-/// branch.
+/// Returns the names and those that are added until all can be moved to the front of the branch. If all its patches are
+/// plain and have headroom by a quick check, these are the dependents of the names in the inverted branch.
 pub(crate) fn grown_to_front(branch: &Branch, names: NameSet) -> Result<NameSet, AllocError>
     ensures { IfOk result (λ grown. GrowsToFront branch.now (names_in names) (names_in grown)) }
 {
@@ -73,8 +71,8 @@ pub(crate) fn grown_to_front(branch: &Branch, names: NameSet) -> Result<NameSet,
     }
 }
 
-/// Returns the names, and those that are added until all can be moved to the front of a list. Arranges the
-/// list once for each added name, and once more to find that none is missing.
+/// Returns the names and those that are added until all can be moved to the front of a list. Arranges the list once for
+/// each added name, and once more to find that none is missing.
 pub(crate) fn stuck_to_front(
     alloc: Global,
     list: &[Shared<Catch>],
@@ -92,7 +90,7 @@ pub(crate) fn stuck_to_front(
     }
 }
 
-/// Returns the names of the patches of a branch that are in a set, in the order of the branch.
+/// Returns those names of patches of a branch that are in a set, in the order of the branch.
 pub(crate) fn in_order(branch: &Branch, set: &NameSet) -> Result<Names, AllocError>
     ensures { IfOk result (λ names. names ≡ in_order branch.now (names_in set.now)) }
 {

@@ -11,8 +11,8 @@ use camp_base::Name;
 use camp_repo::{Branch, Names, State};
 use std::alloc::AllocError;
 
-/// Returns the names of the patches that the branch `from` has and `to` lacks, in the order of `from`; none
-/// if the two are one. A pull without names brings these, unless it is refused.
+/// Returns the names of the patches that the branch `from` has and `to` lacks, in the order of `from`; none if both are
+/// the same branch. A pull without names pulls these, unless it is refused.
 pub fn missing(state: &State, from: &Name, to: &Name) -> Result<Names, Unanswered>
     ensures exact { ReportsAnswer (IsMissing state.now from.now to.now) result }
 {
@@ -21,7 +21,7 @@ pub fn missing(state: &State, from: &Name, to: &Name) -> Result<Names, Unanswere
     answer_or_memory(missing_in(ours, theirs))
 }
 
-/// Returns the names of the patches that one branch lacks, in the order of the other.
+/// Returns the names of the patches that one branch has and another lacks, in the order of the first.
 fn missing_in(ours: &Branch, theirs: &Branch) -> Result<Names, AllocError>
     ensures { IfOk result (λ names. names ≡ missing_in ours.now theirs.now) }
 {

@@ -1,11 +1,11 @@
-//! Faster ways to what the definitions say: each gives the result of adding names one by one.
+//! Faster ways to what the definitions reach by adding names one by one.
 //!
-//! - Dependents are found in one pass over the patches of a branch, from the first to the last: a patch that can be
-//!   moved in front of all that are to be taken out stays, and any other is to be taken out too.
-//! - The dependencies of plain patches are their dependents in the inverted branch, the last patch first and
-//!   each change inverted, if all have headroom, both ways. Otherwise names are added one by one.
-//! - A patch of plain changes to other files than those of the patches to be taken out is moved in front of these
-//!   unchanged. Files are compared by small hash numbers of their paths.
+//! - Dependents are found in one pass over the patches of a branch, from the first to the last: a patch stays if it can
+//! be moved in front of all that are to be taken out; any other has to be taken out too.
+//! - The dependencies of plain patches are their dependents in the inverted branch, which has the inverse of each
+//! change, the last first; both branches must have headroom. Otherwise names are added one by one.
+//! - A patch of plain changes moves unchanged in front of patches to be taken out that change other files. Files are
+//! compared by small hashes of their paths.
 mod changed_files;
 mod going;
 mod patch_catches;

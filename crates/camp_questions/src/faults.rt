@@ -6,10 +6,10 @@ use camp_repo::Refusal;
 use std::alloc::AllocError;
 use thiserror::Error;
 
-/// Why a question has no answer.
+/// Why a question has no answer: it is refused, or memory ran out.
 #[derive(Clone, Copy, PartialEq, Eq, Debug, Error)]
 pub enum Unanswered {
-    /// A refusal of the same kind as those of calls. A call with the same names may get another.
+    /// A refusal of the same kind as those of calls. A call about the same names may get another refusal.
     #[error("refused")]
     Refused(Refusal),
     #[error("out of memory")]

@@ -1,4 +1,4 @@
-//! The result that a call would have, without executing it.
+//! What a call would do, without executing it.
 ghost use Rattle.std.specs.Prelude.{◌≡◌, ◌-◌, ◌^◌, ◌<◌, IfErr, IfOk};
 ghost use Rattle.camp_questions.specs.Foresight.{Foresees, IsAcceptedSo, MayWantForesight, branch_written};
 ghost use Rattle.camp_questions.specs.Inside.Foresight.{LedTo};
@@ -8,35 +8,35 @@ use camp_base::{Name, Tree};
 use camp_repo::{Call, Conflicts, Decided, Reply, State};
 use std::alloc::AllocError;
 
-/// The result that a call would have.
+/// What a call would do.
 #[derive(Drop)]
 pub struct Foreseen {
     /// The reply that it would get.
     pub reply: Reply,
-    /// If it would be accepted: the branch that it would write to, in its state after the call.
+    /// If it would be accepted: the branch that it writes to, in its state after the call.
     pub changed: Option<BranchState>,
 }
 
-/// The state of a branch after a call, and what the call would change about its unresolved conflicts.
+/// The state of a branch after a call, and how the call would change its unresolved conflicts.
 #[derive(Drop)]
 pub struct BranchState {
     pub branch: Name,
     pub tree: Tree,
     pub conflicts: Conflicts,
-    /// Those that are unresolved after the call, and were not before it.
+    /// The conflicts that become unresolved.
     pub opened: Conflicts,
-    /// Those that were unresolved before the call, and are not after it.
+    /// The conflicts that are unresolved before the call, and not after it.
     pub resolved: Conflicts,
 }
 
-/// Returns the reply that a call would get, and the branch that it would write to, in its state after the
-/// call. Nothing changes.
+/// Returns the reply that a call would get and, if it would be accepted, the branch that it writes to in its state
+/// after the call. Changes nothing.
 pub fn what_if(state: &State, call: &Call) -> Result<Foreseen, AllocError>
     requires { state.now.count < 2 ^ 64 - 1 }
     ensures exact { IfOk result (λ seen. Foresees state.now call.now seen) }
     ensures memory { IfErr result (λ error. MayWantForesight state.now call.now) }
 {
-    // Its clauses show the prover that the state is lawful.
+    // The clauses of this call show the prover that the state is lawful.
     let _lawful = state.count();
     match state.decide(call)? {
         Decided::Answer(reply) => Ok(Foreseen {
@@ -47,8 +47,7 @@ pub fn what_if(state: &State, call: &Call) -> Result<Foreseen, AllocError>
     }
 }
 
-/// Returns the number of an accepted call, and the branch that it wrote to, as it is in the state after the
-/// call.
+/// Returns the reply to an accepted call, and the branch that it has written to in the state after the call.
 fn written(state: &State, next: &State, call: &Call) -> Result<Foreseen, AllocError>
     requires { LedTo call.now state.now next.now }
     ensures { IfOk result (IsAcceptedSo call.now state.now next.now) }

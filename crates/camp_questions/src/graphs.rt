@@ -24,7 +24,7 @@ pub struct PatchGraph {
 #[derive(Drop)]
 pub struct Node {
     pub name: Name,
-    /// Its direct dependencies: no other dependency of it depends on one of these.
+    /// Its direct dependencies: those that are no dependencies of another of its dependencies.
     pub needs: Names,
 }
 

@@ -1,15 +1,15 @@
 //! The laws of questions, as functions whose contracts state them.
 ghost use Rattle.camp_questions.specs.Laws.{AlongIsEnough, ArrowsAreDirectNeeds, ArrowsLeadBackwards, ForeseenComes, HeldCanGo, HeldIsDetermined, HeldIsLeast, LinesAreBrought, LinesHaveNames, MissingIsPulled, NeedsAndHeldAreOne, NeedsAreDetermined, NeedsAreLeast, NeedsAreReached, NeedsCanBePulled, NeedsComeFirst, OrderKeepsNames, PartsAreReached, RecordedIsShown, SidesApply, SidesAreAccepted};
 
-/// A pull without names that is accepted brings what is missing, in this order; if nothing is missing, it is
-/// refused as having nothing to do.
+/// An accepted pull without names appends the missing patches, in this order; if none is missing, the pull is refused
+/// as having nothing to do.
 #[tactic(auto, using(crate::proofs::MissingNames::missing_is_pulled))]
 pub fn missing_is_pulled()
     ensures law { MissingIsPulled }
 {}
 
-/// The dependencies of patches have these patches and can be moved to the front of their branch; each further
-/// one blocks a part of them on the way.
+/// The dependencies of patches include the patches and can be moved to the front of their branch; each further one
+/// blocks some of them on the way.
 pub fn needs_come_first()
     ensures law { NeedsComeFirst }
 {}
@@ -63,9 +63,8 @@ pub fn lines_have_names()
     ensures law { LinesHaveNames }
 {}
 
-/// Each line of a file was added by a hunk of the patch whose name it has, if a primitive that occurs again
-/// under its label only restores what was removed. In a lawful branch of plain catches, no label occurs
-/// again.
+/// Each line of a file was added by a hunk of the patch whose name it has, if primitives that occur again under their
+/// labels only restore removed lines. In a lawful branch of plain catches, no label occurs again.
 #[tactic(auto, using(crate::proofs::BroughtLines::lines_are_brought))]
 pub fn lines_are_brought()
     ensures law { LinesAreBrought }
@@ -105,8 +104,8 @@ pub fn sides_apply()
     ensures law { SidesApply }
 {}
 
-/// The changes of a side are accepted if they are recorded within the limits; if they are refused under a new
-/// name, they are too large.
+/// A record of the changes of a side is accepted if it is within the limits; under a new name, it is refused only as
+/// too large.
 #[tactic(auto, using(crate::proofs::SidesAccepted::sides_are_accepted))]
 pub fn sides_are_accepted()
     ensures law { SidesAreAccepted }
@@ -119,13 +118,13 @@ pub fn along_is_enough()
     ensures law { AlongIsEnough }
 {}
 
-/// The arrows of a graph of a lawful branch lead backwards: each to a patch that comes before.
+/// The arrows of a graph of a lawful branch lead backwards: each to a patch that was recorded or pulled earlier.
 pub fn arrows_lead_backwards()
     ensures law { ArrowsLeadBackwards }
 {}
 
-/// The foreseen result of a call is its result: the reply that it gets, and the tree and the conflicts of the
-/// branch that it writes to, as questions directly after it return them.
+/// A call does what was foreseen: it gets the foreseen reply, and questions directly after it return the foreseen tree
+/// and conflicts of the branch that it writes to.
 #[tactic(auto, using(crate::proofs::Foreseeing::foreseen_comes))]
 pub fn foreseen_comes()
     ensures law { ForeseenComes }

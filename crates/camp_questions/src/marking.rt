@@ -25,7 +25,7 @@ use camp_share::SharedList;
 use std::alloc::{AllocError, Global};
 use std::marker::Model;
 
-/// The answer for the marks of a path.
+/// The answer to a question for a file with marks.
 #[derive(Drop)]
 pub enum Marked {
     File(MarkedFile),
@@ -33,7 +33,7 @@ pub enum Marked {
     NoFile,
 }
 
-/// A file as hunks, and the lines after the last one.
+/// A file as hunks, and the lines after the last hunk.
 #[derive(Drop)]
 pub struct MarkedFile {
     pub(crate) places: Vec<MarkedHunk>,
@@ -64,7 +64,7 @@ impl MarkedFile {
     }
 }
 
-/// A hunk: its lines, the context lines since the hunk above, and the lines of each side there.
+/// A hunk: its lines, the context lines after the hunk above, and the lines of each side there.
 #[derive(Drop)]
 pub struct MarkedHunk {
     pub(crate) before: SharedList<Line>,
@@ -81,7 +81,7 @@ impl Model for MarkedHunk {
 }
 
 impl MarkedHunk {
-    /// Returns the context lines since the hunk above.
+    /// Returns the context lines after the hunk above.
     pub fn before(&self) -> &SharedList<Line>
         ensures value { result.now ≡ self.now.before }
     {
@@ -95,7 +95,7 @@ impl MarkedHunk {
         &self.lines
     }
 
-    /// Returns the lines of each side there, in the order of the patches in the branch.
+    /// Returns the lines that each side has there, in the order of the patches in the branch.
     pub fn sides(&self) -> &[Version]
         ensures value { result.now ≡ self.now.sides }
     {
@@ -103,14 +103,14 @@ impl MarkedHunk {
     }
 }
 
-/// The lines that a patch has for those of a file.
+/// The lines that a patch has where a hunk has its own.
 #[derive(Drop)]
 pub struct Version {
     pub name: Name,
     pub lines: SharedList<Line>,
 }
 
-/// Returns a file of a branch with the unresolved sides of its conflicts.
+/// Returns a file of a branch with its unresolved sides.
 pub fn marks(state: &State, branch: &Name, path: &Path) -> Result<Marked, Unanswered>
     ensures exact { ReportsAnswerOrMemory (AreMarked state.now branch.now path.now) result }
 {
@@ -118,7 +118,7 @@ pub fn marks(state: &State, branch: &Name, path: &Path) -> Result<Marked, Unansw
     answer_or_memory(marks_at(branch, branch.tree(), path))
 }
 
-/// MakesVersion the answer for a path, given a branch and its tree.
+/// Makes the answer for a path, given a branch and its tree.
 fn marks_at(branch: &Branch, tree: &Tree, path: &Path) -> Result<Marked, AllocError>
     requires { LeadsTo branch.now tree.now }
     ensures { IfOk result (MarksAt branch.now tree.now path.now (get tree.now path.now)) }
@@ -131,8 +131,7 @@ fn marks_at(branch: &Branch, tree: &Tree, path: &Path) -> Result<Marked, AllocEr
     Ok(Marked::File(file))
 }
 
-/// Returns the versions of a file that the patches of a branch in unresolved conflicts would make, in their
-/// order.
+/// Returns the versions of a file that the branch's patches in unresolved conflicts would make, in their order.
 fn versions_at(
     branch: &Branch,
     tree: &Tree,
@@ -192,7 +191,7 @@ fn versions_of(
     Ok(versions)
 }
 
-/// Appends the version that a patch would make of a file, if it makes one that differs.
+/// Appends the version that a patch would make of a file, if it differs from the file.
 fn push_made(
     versions: &mut Vec<Version>,
     lines: &SharedList<Line>,

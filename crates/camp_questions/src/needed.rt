@@ -1,4 +1,4 @@
-//! The dependencies of each patch of a branch, as one mark for each index of the branch.
+//! The dependencies of each patch of a branch, as marks: one for each index of the branch.
 ghost use Rattle.std.specs.Prelude.{◌≡◌, map, IfOk};
 ghost use Rattle.camp_branch.specs.Branches.{is_among, names_of};
 ghost use Rattle.camp_branch.specs.Fields.{names_in};
@@ -35,7 +35,7 @@ pub(crate) fn all_needed(branch: &Branch, names: &[Name]) -> Result<Vec<Needed>,
     }
 }
 
-/// Returns the dependencies of each patch by moving it to the front: what blocks it is a dependency.
+/// Returns the dependencies of each patch, found by moving it to the front: what blocks it is a dependency.
 fn all_stuck(
     alloc: Global,
     catches: &[Shared<Catch>],
@@ -54,7 +54,7 @@ fn all_stuck(
     Ok(all)
 }
 
-/// Returns for each name whether it is in a set.
+/// Returns for each name whether a set contains it.
 pub(crate) fn marks_of(
     alloc: Global,
     names: &[Name],

@@ -31,7 +31,7 @@ pub(crate) fn nodes(alloc: Global, names: &[Name], all: &[Needed]) -> Result<Vec
     Ok(nodes)
 }
 
-/// True if no patch has a mark beyond its own index.
+/// True if no patch has a mark past its own index.
 fn end_in_place(all: &[Needed]) -> bool
     ensures { IsTrue result → EndAtOwnIndex all.now }
 {
@@ -43,9 +43,9 @@ fn end_in_place(all: &[Needed]) -> bool
     true
 }
 
-/// Returns the direct dependencies of the patch at an index: all its dependencies without those of its other
-/// dependencies. Tries the last ones first, since they usually remove most of those before them. If no patch
-/// has a mark beyond its own index, the patches before the first dependency that is left remove none.
+/// Returns the direct dependencies of the patch at an index: its dependencies without the dependencies of these. The
+/// last ones are tried first, since they usually remove most of those before them. If no patch has a mark past its own
+/// index, trying stops at the first dependency that is left.
 fn direct_needs(
     alloc: Global,
     names: &[Name],
@@ -76,7 +76,7 @@ fn direct_needs(
     Ok(Names::new(names))
 }
 
-/// Returns the index after the last dependency of the patch at an index, of those below `count`.
+/// Returns the index after the last dependency of the patch at an index; only indexes below `count` are searched.
 fn end_of_needed(marks: &[bool], at: usize, count: usize) -> usize
     ensures within { result ≤ count }
     ensures none { (place : ℕ) → result ≤ place → place < count → needs_index marks.now at place ≡ false }
@@ -91,8 +91,8 @@ fn end_of_needed(marks: &[bool], at: usize, count: usize) -> usize
     end
 }
 
-/// Returns an index such that no patch before it depends on one at these indexes: the first of these, if no
-/// patch has a mark beyond its own index.
+/// Returns an index before which no patch depends on one at these indexes: the first of these if no patch has a mark
+/// past its own index, else 0.
 fn settled_before(places: &[usize], in_place: bool) -> usize
     requires { AllByRecursion (λ place. get_or places.now 0 0 ≤ place) places.now }
     ensures { AreSettled in_place places.now result }
@@ -131,8 +131,8 @@ fn needs(marks: &[bool], at: usize, place: usize) -> bool
     place != at && place < marks.len() && marks[place]
 }
 
-/// Removes the indexes of the dependencies of the patch at an index. If its marks end before the first of the
-/// indexes, removes none.
+/// Removes from the indexes those of the dependencies of the patch at an index. Returns at once if its marks end before
+/// the first of the indexes.
 fn leave_out(places: &mut Vec<usize>, marks: &[bool], at: usize)
     requires { AllByRecursion (λ place. get_or places.old.items 0 0 ≤ place) places.old.items }
     ensures { places.new.items ≡ filter (λ place. not (needs_index marks.now at place)) places.old.items }

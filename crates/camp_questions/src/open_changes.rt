@@ -1,4 +1,4 @@
-//! The conflicts that become unresolved, and those that are resolved, from one state to another.
+//! The conflicts that become unresolved, and those that no longer are, from one state to the next.
 ghost use Rattle.std.specs.Prelude.{◌≡◌, AllPairs, IfOk};
 ghost use Rattle.camp_branch.specs.Conflicting.{IsBefore};
 ghost use Rattle.camp_questions.specs.Foresight.{AreOpenThere, OpensAndResolves, is_pair_among, pairs_without};
@@ -8,8 +8,8 @@ use camp_base::Name;
 use camp_repo::{Conflicts, State};
 use std::alloc::{AllocError, Global};
 
-/// Returns the conflicts of a branch that are unresolved in the next state and not in this one, and those that
-/// are in this one and not in the next.
+/// Returns the conflicts of a branch that are unresolved in the next state only, and those that are so in this state
+/// only.
 pub(crate) fn opened_and_resolved(
     alloc: Global,
     state: &State,
@@ -35,7 +35,7 @@ fn open_there(alloc: Global, state: &State, branch: &Name) -> Result<Conflicts, 
     }
 }
 
-/// Returns the pairs that are not among others. The others are in ascending order.
+/// Returns the pairs that are not in another list, which is in ascending order.
 fn without(alloc: Global, pairs: &Conflicts, others: &Conflicts) -> Result<Conflicts, AllocError>
     requires { AllPairs IsBefore others.now }
     ensures { IfOk result (λ left. left ≡ pairs_without others.now pairs.now) }
@@ -45,7 +45,7 @@ fn without(alloc: Global, pairs: &Conflicts, others: &Conflicts) -> Result<Confl
     Ok(Conflicts::new(left))
 }
 
-/// True if a pair is among others, if these are in ascending order.
+/// True if a list in ascending order contains a pair.
 fn is_among(pairs: &[(Name, Name)], pair: &(Name, Name)) -> bool
     ensures { AllPairs IsBefore pairs.now → result ≡ is_pair_among pairs.now pair.now }
 {

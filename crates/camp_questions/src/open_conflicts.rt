@@ -49,7 +49,7 @@ pub(crate) fn open_among(
     Ok(pairs)
 }
 
-/// Returns the pairs in the order of the catches.
+/// Returns the pairs in the order of the catches, possibly with repetitions.
 fn collected(
     catches: &SharedList<Shared<Catch>>,
     seen: &CtxSet,

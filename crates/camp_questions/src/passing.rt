@@ -1,5 +1,5 @@
-//! Moves labels in conflict from after changes to before them. Most changes leave a label as it is, or only
-//! move it to another line. Any other change is added by the definition.
+//! Moves labels in conflict from after changes to before them. Most changes leave a label unchanged, or move it only to
+//! another line; these are passed quickly. Any other change is added as the definition says.
 ghost use Rattle.std.specs.Prelude.{◌≡◌, ◌+◌, ◌<◌, ◌≤◌, ◌↔◌, [], drop, length, IfOk, IfSome, IsTrue};
 ghost use Rattle.camp_ctx.specs.Adding.{AddsAll};
 ghost use Rattle.camp_ctx.specs.Contexts.{bare};
@@ -15,11 +15,11 @@ use camp_prim::{Hunk, Named, Primitive};
 use camp_seq::Seq;
 use std::alloc::{AllocError, Global};
 
-/// The greatest sum of a hunk's line and the numbers of its old and of its new lines.
+/// The greatest sum of a hunk's line and the counts of its old and of its new lines.
 const MOST_REACH: usize = 1 << 30;
 
-/// Moves contexted patches from after changes to before them. While no change is passed quickly, more and
-/// more of them are added at once.
+/// Moves a contexted patch from after changes to before them. As long as no change can be passed quickly, the number of
+/// changes added at once is doubled.
 pub(crate) fn seen_before(
     alloc: Global,
     changes: &[Named],
@@ -40,8 +40,7 @@ pub(crate) fn seen_before(
     Ok(seen)
 }
 
-/// Returns how many changes are added at once next: one if some were passed quickly, else twice as many as
-/// before.
+/// Returns the number of changes to add next: one if some were passed quickly, else twice as many as before.
 fn next_most(most: usize, none_passed: bool) -> usize
     requires { 1 ≤ most }
     ensures { 1 ≤ result }
@@ -59,7 +58,8 @@ fn added(alloc: Global, changes: &[Named], x: &Contexted) -> Result<Contexted, A
     Contexted::add_given(join(alloc, changes, &[])?, x)
 }
 
-/// Returns the index down to which a label passes changes quickly, from the last one on, and the label there.
+/// Passes changes quickly, from the last one on, as far as possible. Returns the index of the first that was passed,
+/// and the label before it.
 fn passed_by(
     alloc: Global,
     changes: &[Named],
@@ -76,7 +76,7 @@ fn passed_by(
     Ok((stop, moved))
 }
 
-/// Returns the index from which changes leave a label as it is.
+/// Returns the index from which on all changes leave a label unchanged.
 fn stays_from(changes: &[Named], x: &Contexted) -> usize
     ensures within { result ≤ length changes.now }
     ensures added { AddsAll (drop result changes.now) x.now x.now }
@@ -89,7 +89,7 @@ fn stays_from(changes: &[Named], x: &Contexted) -> usize
     0
 }
 
-/// Returns the hunk of a label that has no context.
+/// Returns the hunk of a label without a context; `None` for any other label.
 fn hunk_alone(x: &Contexted) -> Option<&Hunk>
     ensures none { IfSome result (λ hunk. x.now.context ≡ []) }
     ensures is { IfSome result (λ hunk. x.now.patch.prim ≡ primitive.Hunk hunk.now) }
@@ -103,8 +103,8 @@ fn hunk_alone(x: &Contexted) -> Option<&Hunk>
     }
 }
 
-/// Returns the index from which a hunk commutes past changes, from the last to the first, and the line to
-/// which it moves.
+/// Commutes a hunk past changes, from the last to the first, as far as possible. Returns the index of the first that it
+/// has passed, and its line before that one.
 fn moves_from(changes: &[Named], patch: &Named, hunk: &Hunk) -> (usize, u32)
     requires { patch.now.prim ≡ primitive.Hunk hunk.now }
     ensures within { result.0 ≤ length changes.now }
@@ -121,8 +121,8 @@ fn moves_from(changes: &[Named], patch: &Named, hunk: &Hunk) -> (usize, u32)
     (0, line)
 }
 
-/// Returns the line to which a hunk at a line moves before a change; `None` if it can't commute past, or if
-/// that is not certain.
+/// Returns the line to which a hunk moves from after a change to before it; `None` if it can't commute past, or the
+/// quick check does not decide.
 fn line_before(change: &Named, patch: &Named, hunk: &Hunk, line: u32) -> Option<u32>
     requires { IsInRange (at_line line hunk.now) }
     ensures range { IfSome result (λ next. IsInRange (at_line next hunk.now)) }
@@ -153,8 +153,8 @@ fn is_in_file(change: &Primitive, hunk: &Hunk) -> bool
     change.path() == hunk.path()
 }
 
-/// Returns the line to which a hunk at a line moves before another hunk of its file, if there are lines
-/// between the two.
+/// Returns the line to which a hunk moves from after another hunk of its file to before it, if there are lines between
+/// the two.
 fn line_past(other: &Hunk, hunk: &Hunk, line: u32) -> Option<u32>
     requires range { IsInRange (at_line line hunk.now) }
     requires path { other.now.path ≡ hunk.now.path }
@@ -183,7 +183,8 @@ fn line_below(other: &Hunk, hunk: &Hunk, line: u32) -> Option<u32>
     Some(next as u32)
 }
 
-/// Returns the line of a hunk above another one: unchanged, if the other one is in range after it too.
+/// Returns the line of a hunk that is above another one, which is its old line; `None` if the other one would be out of
+/// range after it.
 fn line_above(other: &Hunk, hunk: &Hunk, line: u32) -> Option<u32>
     requires range { IsInRange (at_line line hunk.now) }
     requires path { other.now.path ≡ hunk.now.path }
@@ -198,7 +199,7 @@ fn line_above(other: &Hunk, hunk: &Hunk, line: u32) -> Option<u32>
     Some(line)
 }
 
-/// Returns a label without a context with its hunk at another line.
+/// Returns a label without a context, with its hunk at another line.
 fn moved_to(alloc: Global, x: &Contexted, hunk: &Hunk, line: u32) -> Result<Contexted, AllocError>
     requires none { x.now.context ≡ [] }
     requires is { x.now.patch.prim ≡ primitive.Hunk hunk.now }

@@ -88,8 +88,8 @@ fn picture_in(branch: &Branch, names: &[Name]) -> Result<Picture, AllocError>
     })
 }
 
-/// Returns the graph of a branch, or the part of it that belongs to patches. The part of one patch is found
-/// without the rest of the graph, unless it is large.
+/// Returns the graph of a branch, or the part of it that belongs to given patches. The part that belongs to one patch
+/// is found without the rest of the graph, unless it is large.
 fn part_in(branch: &Branch, names: &[Name]) -> Result<PatchGraph, AllocError>
     ensures { IfOk result (λ part. (graph : Drawn) × IsGraph branch.now graph
         × ((pairs : List (List ℕ × List ℕ)) → whole_picture part pairs ≡ drawn_about names.now (whole_picture graph pairs))) }
@@ -144,7 +144,7 @@ fn needed(alloc: Global, nodes: &[Node], names: &[Name]) -> Result<Vec<Name>, Al
     Ok(needed)
 }
 
-/// Appends the direct dependencies of a patch to names, if it is one of them.
+/// Appends to names the direct dependencies of a patch that is among them.
 fn bring_needs(names: &mut Vec<Name>, node: &Node) -> Result<(), AllocError>
     ensures { OnOk result (names.new.items ≡ with_needs_of node.now names.old.items) }
 {
@@ -165,7 +165,7 @@ fn needing(alloc: Global, nodes: &[Node], names: &[Name]) -> Result<Vec<Name>, A
     Ok(needing)
 }
 
-/// Appends a patch to names, if it depends directly on one of them.
+/// Appends to names a patch that depends directly on one of them.
 fn join_needing(names: &mut Vec<Name>, node: &Node) -> Result<(), AllocError>
     ensures { OnOk result (names.new.items ≡ with_needing_one names.old.items node.now) }
 {

@@ -9,7 +9,7 @@ use camp_base::Line;
 use camp_share::SharedList;
 use std::alloc::{AllocError, Global};
 
-/// Lines of a file, from one index up to another; empty if the two are equal.
+/// Lines of a file, from one index up to another, which is excluded; empty if the two are equal.
 #[derive(Clone, Copy)]
 pub struct Range {
     pub from: usize,
@@ -29,7 +29,7 @@ pub(crate) fn with_marks(
     file_with(lines, versions, &ranges, &found)
 }
 
-/// Makes the file with marks, given the range in which each version differs, and the hunks.
+/// Makes the file with marks, given the hunks, and for each version the range in which it differs.
 fn file_with(
     lines: &SharedList<Line>,
     versions: &[Version],
@@ -67,8 +67,8 @@ fn ranges_of(
     Ok(ranges)
 }
 
-/// Returns the range of a file that differs from another list of lines: without the common lines at the start
-/// and, after those, at the end.
+/// Returns the range of a file where another list of lines differs: without the common lines at the start and, of the
+/// rest, at the end.
 fn range_of(lines: &[Line], others: &[Line]) -> Range
     ensures { result ≡ range_of lines.now others.now }
 {
@@ -91,8 +91,8 @@ fn merged_ranges(alloc: Global, ranges: &[Range]) -> Result<Vec<Range>, AllocErr
     Ok(places)
 }
 
-/// Adds a range to disjoint ranges in ascending order: those before it, the union with those that it touches,
-/// and those after it.
+/// Returns disjoint ranges in ascending order with one more added: those before it, the union with those that it
+/// touches, and those after it.
 fn with_range(alloc: Global, places: &[Range], range: Range) -> Result<Vec<Range>, AllocError>
     ensures { IfOk result (λ new. new.items ≡ with_range places.now range) }
 {
@@ -135,7 +135,7 @@ fn join(range: Range, other: Range) -> Range
     }
 }
 
-/// Makes a hunk, with the context lines from an earlier line on.
+/// Makes a hunk whose context lines begin at an index.
 fn hunk_from(
     lines: &SharedList<Line>,
     versions: &[Version],
@@ -156,7 +156,7 @@ fn hunk_from(
     })
 }
 
-/// Returns the sides of a hunk: the lines there of those versions that differ from the file within it.
+/// Returns the sides of a hunk: the lines that each version has there which differs from the file within the hunk.
 fn sides_at(
     lines: &SharedList<Line>,
     versions: &[Version],
@@ -200,7 +200,7 @@ fn is_within(range: Range, place: Range) -> bool
     place.from <= range.from && range.to <= place.to
 }
 
-/// Returns the lines of a version at a hunk.
+/// Returns the lines that a version has at a hunk.
 fn at_range(
     lines: &SharedList<Line>,
     place: Range,

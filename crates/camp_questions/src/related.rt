@@ -18,9 +18,9 @@ use camp_repo::{Branch, Conflicts, Names};
 use std::alloc::{AllocError, Global};
 use std::slice;
 
-/// Returns the part of the graph of a branch with a patch, its dependencies and its dependents. `None` if the
-/// branch lacks the patch, if not all patches are plain with headroom, or if the graph of the whole branch is
-/// less work.
+/// Returns the part of the graph of a branch with a patch, its dependencies and its dependents. `None` if the branch
+/// lacks the patch, if not all patches are plain with headroom, or if making the graph of the whole branch is less
+/// work.
 pub(crate) fn part_of_one(branch: &Branch, name: &Name) -> Result<Option<PatchGraph>, AllocError>
     ensures { IfOk result (λ found. IfSome found (IsPartOfOne branch.now name.now)) }
 {
@@ -41,8 +41,8 @@ pub(crate) fn part_of_one(branch: &Branch, name: &Name) -> Result<Option<PatchGr
     Ok(Some(part))
 }
 
-/// True if a part with `related` patches is less work than the graph of a branch with `all` catches: each of
-/// the patches costs a pass over the branch, in which each catch is compared with up to `related` others.
+/// True if a part with `related` patches is less work than the graph of a branch with `all` catches: each of these
+/// patches costs a pass over the branch, in which each catch is compared with up to `related` others.
 fn is_small(related: usize, all: usize) -> bool {
     related.saturating_mul(related) <= all
 }
@@ -61,8 +61,8 @@ fn related(branch: &Branch, name: &Name) -> Result<Names, AllocError>
     Ok(related)
 }
 
-/// Returns the part of the graph with these patches, which belong to one of them. `back` has the patches of
-/// the branch with their catches inverted, the last first.
+/// Returns the part of the graph with these patches, all related to one. `back` has the patches of the branch with
+/// their catches inverted, the last first.
 fn part_of(branch: &Branch, back: &[PatchCatches], names: &[Name]) -> Result<PatchGraph, AllocError>
     requires inverted { IsInverted branch.now (reverse back.now) }
     requires related { (name : List ℕ) × AreRelated branch.now name names.now }

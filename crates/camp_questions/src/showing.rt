@@ -43,7 +43,7 @@ impl Shown {
         &self.catches
     }
 
-    /// Returns its changes, in the form of a script: those of each effect, in order.
+    /// Returns its changes as a script would record them: those of each effect, in order.
     pub fn changes(&self) -> &[Primitive]
         ensures value { result.now ≡ self.now.changes }
     {

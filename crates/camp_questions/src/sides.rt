@@ -43,8 +43,8 @@ impl Model for Said {
 }
 
 impl Said {
-    /// Returns the changes that apply the patch at the end of the branch, in order. They may be more than fit
-    /// in one patch.
+    /// Returns the changes that apply the patch at the end of the branch, in order. They may be more than 64, the most
+    /// of one patch.
     pub fn changes(&self) -> &[Primitive]
         ensures value { result.now ≡ self.now }
     {
@@ -67,7 +67,7 @@ pub fn side(state: &State, branch: &Name, name: &Name) -> Result<Said, Unanswere
     answer_or_memory(said_in(branch, name))
 }
 
-/// Makes the side of a patch that the branch has.
+/// Makes the side of a patch, which the branch has.
 fn said_in(branch: &Branch, name: &Name) -> Result<Said, AllocError>
     ensures { IfOk result (λ changes. (side : List AnyNamed) × (changes ≡ changes_in side) × IsSideIn branch.now name.now side) }
 {
@@ -101,7 +101,8 @@ pub(crate) fn labels_seen(branch: &Branch) -> Result<CtxSet, AllocError>
     Ok(seen)
 }
 
-/// Returns the labels in conflict that were gathered so far, with those of one more catch.
+/// Returns the labels in conflict gathered so far, with those of one more catch; `undone` has the inverses of the
+/// effects after it.
 fn with_told(alloc: Global, seen: CtxSet, catch: &Catch, undone: &Seq) -> Result<CtxSet, AllocError>
     ensures { IfOk result (λ next. (key : AnyKey) →
         SeenToo undone.now (get seen key) (contexted_in catch.now key) (get next key)) }
@@ -130,7 +131,7 @@ fn with_conflictor(
     Ok(seen)
 }
 
-/// Returns the labels in conflict that were gathered so far, with one more unless it is among them.
+/// Returns the labels in conflict gathered so far, with one more unless it is among them.
 fn with_label(
     alloc: Global,
     seen: CtxSet,

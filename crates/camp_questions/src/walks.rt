@@ -1,4 +1,4 @@
-//! The state of an annotation along the effects of a branch.
+//! Annotation as a walk over the effects of a branch.
 ghost use Rattle.std.specs.Prelude.{◌≡◌, length, IfOk, OnOk};
 ghost use Rattle.std.specs.FinMap.{get, insert};
 ghost use Rattle.camp_base.specs.Trees.{Files};
@@ -30,8 +30,8 @@ pub(crate) fn names_of_lines(
     Ok(walk.names)
 }
 
-/// The state of an annotation along the effects of a branch: for each line of a file the name of the patch
-/// that added it, and for each hunk the names of the lines that it removed.
+/// The state of an annotation after some effects: for each line of a file the name of the patch that added it, and for
+/// each hunk the names of the lines that it removed.
 #[derive(Drop)]
 struct Walk {
     names: SharedList<Name>,
@@ -48,7 +48,7 @@ impl Walk {
         }
     }
 
-    /// Advances the state past an effect of a patch of this name.
+    /// Advances the state by an effect of a patch of this name.
     fn after_effect(&mut self, path: &Path, name: &Name, effect: &[Named]) -> Result<(), AllocError>
         requires { FollowsOn path.now effect.now (known_in self.old) }
         ensures { OnOk result (known_in self.new ≡ known_after_all path.now name.now effect.now (known_in self.old)) }
@@ -59,7 +59,7 @@ impl Walk {
         Ok(())
     }
 
-    // Advances the state past a primitive: only hunks of the file change it.
+    // Advances the state by a primitive: only hunks of the file change it.
     fn after_change(&mut self, path: &Path, name: &Name, p: &Named) -> Result<(), AllocError>
         requires { AppliesOn path.now p.now.prim (known_in self.old) }
         ensures { OnOk result (known_in self.new ≡
@@ -73,8 +73,8 @@ impl Walk {
         }
     }
 
-    // Advances the state past a hunk of the file. Costs time for the hunk's own lines, a search among the
-    // hunks before it, and a reference count for each chunk of the list.
+    // Advances the state by a hunk of the file. Takes time proportional to the hunk's lines, plus a search among the
+    // hunks before it and a reference count for each chunk of the list.
     fn after_hunk(&mut self, name: &Name, key: Key, hunk: &Hunk) -> Result<(), AllocError>
         requires { LiesWithin hunk.now (known_in self.old) }
         ensures { OnOk result (known_in self.new ≡ known_after_hunk name.now key hunk.now (known_in self.old)) }
@@ -88,7 +88,7 @@ impl Walk {
     }
 }
 
-// Returns the names of the new lines of a hunk. Those of the old lines are stored under its key.
+// Returns the names of the new lines of a hunk; stores those of its old lines under its key.
 fn names_behind(
     taken: &mut BTreeMap<Key, SharedList<Name>>,
     name: &Name,
@@ -134,8 +134,8 @@ fn names_coming(
     }
 }
 
-// Returns the names that a hunk itself gives to its new lines: those that are on both of its sides at the
-// start or at the end keep theirs, and all others have the name of the patch.
+// Returns the names that a hunk itself gives to its new lines: those that are on both of its sides at the start or, of
+// the rest, at the end keep theirs; all others get the name of the patch.
 fn own_names(
     gone: &SharedList<Name>,
     name: &Name,

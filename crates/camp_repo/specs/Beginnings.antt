@@ -1,4 +1,4 @@
--- What a state knows of the common prefixes of its branches.
+-- What a state stores about common prefixes of its branches.
 use Rattle.std.specs.Prelude.{◌≡◌, List, Some, map, slice_get}
 use Rattle.std.specs.List.{AllByRecursion}
 use Rattle.camp_catch.specs.declared.catches.Catch.{Catch}
@@ -10,7 +10,7 @@ use Rattle.camp_repo.specs.declared.beginnings.KnownBeginning.{KnownBeginning}
 abbrev pub catches_in : Branches → List (List Catch)
 catches_in branches = map (λ branch. branch.1) branches
 
--- there are branches at these two indexes, and their prefixes of this length agree
+-- a stored pair is right: there are branches at its two indexes, and their prefixes of this length agree
 pub record AgreesIn (branches : List (List Catch)) (known : KnownBeginning) : Type 0 where
   pub theirs : List Catch
   pub ours : List Catch
@@ -18,6 +18,6 @@ pub record AgreesIn (branches : List (List Catch)) (known : KnownBeginning) : Ty
   pub to_is : slice_get branches known.to ≡ Some ours
   pub agree : Agree theirs ours known.long
 
--- all that is known holds
+-- all stored pairs are right
 abbrev pub AllHold : Branches → List KnownBeginning → Type 0
 AllHold branches known = AllByRecursion (AgreesIn (catches_in branches)) known

@@ -9,7 +9,8 @@ use Rattle.camp_repo.specs.declared.states.State.TheInside.{Inside}
 abbrev pub contents_of : Inside → Contents
 contents_of state = record { branches = zip state.names.keys state.branches; count = state.count; limits = state.limits }
 
--- there are as many names as branches, the state is lawful, and what it knows of common prefixes holds
+-- the invariant of a state: it has as many names as branches, is lawful, and what it stores about common prefixes is
+-- right
 pub record IsState (state : Inside) : Type 0 where
   pub as_many : length state.names.keys ≡ length state.branches
   pub lawful : IsLawfulState (contents_of state)

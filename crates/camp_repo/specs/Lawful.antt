@@ -6,8 +6,8 @@ use Rattle.camp_catch.specs.declared.catches.Catch.{Catch}
 use Rattle.camp_branch.specs.Branches.{AreDistinct, HasPatches, LeadsTo, Patch}
 use Rattle.camp_repo.specs.States.{Branches, Contents}
 
--- a branch is lawful if each name has its number of changes: its labels are those of patches with that number of
--- changes, those of one patch together and in ascending place from 1, and its catches fit in order
+-- a branch is lawful, given the number of changes of each patch: its labels are those of patches with these numbers of
+-- changes, the labels of one patch together, at positions from 1; and its catches fit one after the other
 pub record IsLawfulBy (changes_of : List ℕ → ℕ) (catches : List Catch) : Type 0 where
   pub patches : List Patch
   pub has : HasPatches catches patches

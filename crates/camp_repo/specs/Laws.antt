@@ -21,11 +21,11 @@ use Rattle.camp_repo.specs.Outcomes.{conflicts_of, obliterated, pulled}
 use Rattle.camp_repo.specs.States.{Contents, catches_of, new_within, tree_of}
 use Rattle.camp_repo.specs.Steps.{listed, step, wanted}
 
--- a branch has these catches
+-- the branch of a name has these catches
 abbrev pub Has : Contents → List ℕ → List Catch → Type 0
 Has state branch catches = catches_of state.branches branch ≡ Some catches
 
--- one more call is counted, the limits stay, and no branch but this one changes, appears or disappears
+-- one more call is counted, the limits stay, and only this branch changes; none appears or disappears
 pub record ChangesOne (branch : List ℕ) (old new : Contents) : Type 0 where
   pub counted : new.count ≡ old.count + 1
   pub limits : new.limits ≡ old.limits
@@ -40,8 +40,8 @@ pub record Copies (new_branch from : List ℕ) (old new : Contents) : Type 0 whe
   pub was : Has old from catches
   pub becomes : new.branches ≡ old.branches ++ (new_branch, catches) ∷ []
 
--- a patch of these changes is appended to a branch, and they lead, in order, from the tree of the branch to its next
--- one
+-- a patch of these changes is appended to a branch; the changes, in order, lead from the tree of the branch to its next
+-- tree
 pub record Records (branch name : List ℕ) (changes : List Primitive) (old new : Contents) : Type 0 where
   pub changes_one : ChangesOne branch old new
   pub catches : List Catch
@@ -52,8 +52,8 @@ pub record Records (branch name : List ℕ) (changes : List Primitive) (old new 
   pub leads : LeadsTo catches tree
   pub applies : AppliesEach changes tree next_tree
 
--- a branch keeps its catches and gets further ones after them; its names are its old ones followed by the wanted
--- ones, in the order of the other branch
+-- further catches are appended to a branch; its names are its old ones followed by the wanted ones, in the order of the
+-- other branch
 pub record Pulls (from to : List ℕ) (names : Option (List (List ℕ))) (old new : Contents) : Type 0 where
   pub changes_one : ChangesOne to old new
   pub theirs : List Catch
@@ -66,7 +66,7 @@ pub record Pulls (from to : List ℕ) (names : Option (List (List ℕ))) (old ne
       names_of (ours ++ taken) ≡
       names_of ours ++ filter (is_among (wanted ours (listed theirs names))) (names_of theirs)
 
--- a branch has its other names, in their order
+-- a branch keeps its other patches, in their order
 pub record Obliterates (branch : List ℕ) (names : List (List ℕ)) (old new : Contents) : Type 0 where
   pub changes_one : ChangesOne branch old new
   pub catches : List Catch
@@ -75,7 +75,7 @@ pub record Obliterates (branch : List ℕ) (names : List (List ℕ)) (old new : 
   pub becomes : Has new branch left
   pub named : names_of left ≡ other_names catches names
 
--- the effect of an accepted call; a question is never accepted
+-- the effect of each accepted call; a question is never accepted
 abbrev pub Effect : Call → Contents → Contents → Type 0
 Effect (call.Branch new_branch from) old new = Copies new_branch from old new
 Effect (call.Record branch name changes) old new = Records branch name changes old new
@@ -101,8 +101,8 @@ StepsKeepLawful =
     (state : Contents) (call : Call) (next : Contents) → IsLawfulState state → step state call ≡ Next next →
     IsLawfulState next
 
--- each branch of a lawful state has a tree: its catches lead to it, and a question for it is answered with it; so no
--- record is refused for lack of one
+-- each branch of a lawful state has a tree, to which its catches lead, and a question for it is answered with it; so no
+-- record is refused because there is no tree
 abbrev pub TreesAreAnswered : Type 0
 TreesAreAnswered =
     (state : Contents) (branch : List ℕ) (catches : List Catch) → IsLawfulState state → Has state branch catches →
@@ -141,7 +141,7 @@ HistoriesKeepLimits =
     (limits : Bounds) (history : List (ℕ × Call)) (state : Contents) → replay (repository_within limits) history ≡ Some state →
     state.limits ≡ limits
 
--- a pull, an obliteration and the conflicts of a branch are as their definitions say
+-- the results of a pull, of an obliteration and of a question for conflicts are those of the definitions of branches
 pub record OutcomesAreDefined : Type 0 where
   pub pulls : (from to : List Catch) (wanted : List (List ℕ)) → PullGives from to wanted (pulled from to wanted)
   pub obliterates : (branch : List Catch) (names : List (List ℕ))

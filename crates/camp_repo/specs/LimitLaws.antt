@@ -1,4 +1,4 @@
--- The laws of limits: the result of a call below a limit and at it.
+-- The laws of limits: the result of a call that stays within a limit, and of one that would exceed it.
 use Rattle.std.specs.Prelude.{◌≡◌, ℕ, ◌+◌, ◌<◌, ◌≤◌, true, false, List, [], ◌∷◌, ◌++◌, length, Option, None, Some, bytes_eq}
 use Rattle.std.specs.List.{list_any}
 use Rattle.camp_base.specs.Trees.{Files}
@@ -14,7 +14,7 @@ use Rattle.camp_repo.specs.States.{Contents, catches_of, stands, tree_of}
 use Rattle.camp_repo.specs.Steps.{accepted, becomes, catches_named, changed, has_long_side, is_empty, is_patch_sized}
 use Rattle.camp_repo.specs.Steps.{listed, record_leads, refused, step, wanted}
 
--- two branches of a state, and listed names that the one has and of which the other lacks at least one
+-- two branches of a state, and listed names of which one branch has all and the other lacks at least one
 pub record CanPull (state : Contents) (from to : List ℕ) (names : Option (List (List ℕ))) (theirs ours : List Catch) : Type 0 where
   pub from_has : Has state from theirs
   pub to_has : Has state to ours
@@ -22,8 +22,8 @@ pub record CanPull (state : Contents) (from to : List ℕ) (names : Option (List
   pub has_listed : first_lacked theirs (listed theirs names) ≡ None
   pub some_wanted : is_empty (wanted ours (listed theirs names)) ≡ false
 
--- a state with these limits on the catches of a branch and on the branches: a call that passes the tests before the
--- limit is refused as too large exactly if the limit would be exceeded
+-- a state has these limits on catches and branches: a call that passes the tests before the test of a limit is refused
+-- as too large exactly if the limit would be exceeded
 pub record Holds (most_catches most_branches : ℕ) (state : Contents) : Type 0 where
   pub full : (new from : List ℕ) (catches : List Catch)
       → Has state from catches → catches_of state.branches new ≡ None → most_branches ≤ length state.branches →
@@ -48,10 +48,10 @@ pub record Holds (most_catches most_branches : ℕ) (state : Contents) : Type 0 
       → length ours + length (catches_named (wanted ours (listed theirs names)) theirs) ≤ most_catches →
       step state (call.Pull from to names) ≡ becomes state to (pulled theirs ours (wanted ours (listed theirs names)))
 
--- each state is limited as its limits say
+-- the limits stored in a state are those that its calls obey
 abbrev pub StatesHoldTheirLimits : Type 0
 StatesHoldTheirLimits = (state : Contents) → Holds state.limits.catches state.limits.branches state
 
--- a state without given limits has 4,096 catches in a branch, and 256 branches, at most
+-- a state without given limits allows at most 4,096 catches in a branch, and 256 branches
 abbrev pub DefaultLimitsHold : Type 0
 DefaultLimitsHold = (state : Contents) → state.limits ≡ default_bounds → Holds 4_096 256 state

@@ -8,7 +8,7 @@ pub record Bounds : Type 0 where
   pub catches : ℕ
   pub branches : ℕ
 
--- the limits of a repository that was given none
+-- the default limits
 abbrev pub default_bounds : Bounds
 default_bounds = record { catches = 4_096; branches = 256 }
 
@@ -19,7 +19,7 @@ pub record AreLimits (catches branches : ℕ) : Type 0 where
   pub some_branches : 0 < branches
   pub few_branches : branches ≤ 65_536
 
--- the limits with these numbers, or the first number that can't be a limit
+-- the limits with these numbers, or which of the two numbers is out of range first
 abbrev pub bounded : ℕ → ℕ → Result Bounds LimitFault
 bounded catches branches =
     if nat_le 1 catches && nat_le catches 16_777_216

@@ -24,7 +24,7 @@ use Rattle.camp_repo.specs.States.{Contents, after, catches_of, new_within, stan
 use Rattle.camp_repo.specs.Steps.{Decision, becomes, changed, is_empty, is_full_with, is_too_large}
 use Rattle.camp_repo.specs.Steps.{listed, record_leads, refused, refused_if, shown, step, wanted}
 
--- a decision fulfils P if it is a next state, Q if it is a reply
+-- P holds of a decision that is a next state, and Q of one that is a reply
 abbrev pub Comes : (Contents → Type 0) → (Reply → Type 0) → Decision → Type 0
 Comes P Q (Next state) = P state
 Comes P Q (Answer answer) = Q answer
@@ -64,12 +64,12 @@ module _ (P : Contents → Type 0) (Q : Reply → Type 0) (refusals : (refusal :
   by_shown None on = refusals DoesNotApply
   by_shown (Some tree) on = on tree
 
--- the next state counts one more call, which writes, and has the same limits
+-- the next state counts one more call, which writes; the limits are unchanged
 abbrev pub CountsOne : Contents → Call → Contents → Type 0
 CountsOne state call next =
     (next.count ≡ state.count + 1) × (is_writing call ≡ true) × (next.limits ≡ state.limits)
 
--- the reply has no number
+-- the reply contains no number of a call
 abbrev pub HasNoNumber : Reply → Type 0
 HasNoNumber answer = reply_number answer ≡ None
 

@@ -10,12 +10,12 @@ use Rattle.camp_repo.specs.Limits.{Bounds, default_bounds}
 use Rattle.camp_repo.specs.States.{Contents, new_within}
 use Rattle.camp_repo.specs.Steps.{Decision, step}
 
--- the state after a decision, if the call is accepted
+-- the state after a decision, if it accepts the call
 abbrev pub next_of : Decision → Option Contents
 next_of (Next state) = Some state
 next_of (Answer answer) = None
 
--- the number in a reply, if it is one to an accepted call
+-- the number in a reply to an accepted call; none in others
 abbrev pub reply_number : Reply → Option ℕ
 reply_number (reply.Done at) = Some at
 reply_number (reply.Refused refusal) = None
@@ -23,7 +23,7 @@ reply_number (reply.Tree tree) = None
 reply_number (reply.Conflicts pairs) = None
 reply_number (reply.Names names) = None
 
--- a repository with these limits as an object: a call is accepted if it leads to a next state
+-- a repository with these limits as an object: it accepts a call if the decision is a next state
 abbrev pub repository_within : Bounds → Sequential Contents Call Reply
 repository_within limits = record {
   initial = new_within limits;
@@ -36,11 +36,11 @@ repository_within limits = record {
   done_at = reply_number;
 }
 
--- a repository that was given no limits
+-- a repository with the default limits, as an object
 abbrev pub repository : Sequential Contents Call Reply
 repository = repository_within default_bounds
 
--- the reply for a decision: that to an accepted call has its number
+-- the reply for a decision; one to an accepted call contains the number of the call
 abbrev pub reply_of : Decision → Reply
 reply_of (Next state) = reply.Done state.count
 reply_of (Answer answer) = answer

@@ -1,4 +1,4 @@
--- The results of pulls, obliterations and conflicts as functions: each has exactly one.
+-- The results of pulls, obliterations and questions for conflicts as functions: each has exactly one.
 use Rattle.std.specs.Prelude.{ℕ, List}
 use Rattle.camp_catch.specs.declared.catches.Catch.{Catch}
 use Rattle.camp_branch.specs.Pulling.{Outcome}

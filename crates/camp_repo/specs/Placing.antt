@@ -11,7 +11,7 @@ placed [] place catches = []
 placed (branch ∷ branches) zero catches = (branch.0, catches) ∷ branches
 placed (branch ∷ branches) (suc place) catches = branch ∷ placed branches place catches
 
--- the branch at an index becomes an outcome, or the call is refused
+-- the decision for an outcome of the branch at an index: a state with the new branch, or a refusal
 abbrev pub settled : Contents → ℕ → Outcome → Decision
 settled state place (Ok catches) = accepted state (placed state.branches place catches)
 settled state place (Err why) = refused (refusal_of why)

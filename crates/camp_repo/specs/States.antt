@@ -11,7 +11,7 @@ use Rattle.camp_catch.specs.declared.catches.Catch.{Catch}
 use Rattle.camp_branch.specs.Branches.{has_patch}
 use Rattle.camp_repo.specs.Limits.{Bounds, default_bounds}
 
--- branches, each a name and its catches
+-- a branch: its name and its catches
 abbrev pub Branches : Type 0
 Branches = List (List ℕ × List Catch)
 
@@ -29,11 +29,11 @@ after state branches = record { branches = branches; count = state.count + 1; li
 abbrev pub new_within : Bounds → Contents
 new_within limits = record { branches = (codes "main", []) ∷ []; count = 0; limits = limits }
 
--- a new repository that was given no limits
+-- a new repository with the default limits
 abbrev pub initial : Contents
 initial = new_within default_bounds
 
--- the catches of the branch of a name
+-- the catches of the branch of a name, if there is one
 abbrev pub catches_of : Branches → List ℕ → Option (List Catch)
 catches_of [] name = None
 catches_of (branch ∷ branches) name = if bytes_eq name branch.0 then Some branch.1 else catches_of branches name
@@ -44,11 +44,11 @@ with_catches [] name catches = []
 with_catches (branch ∷ branches) name catches =
     if bytes_eq name branch.0 then (branch.0, catches) ∷ branches else branch ∷ with_catches branches name catches
 
--- some branch has a patch of a name
+-- some branch has a patch of this name
 abbrev pub stands : Branches → List ℕ → Bool
 stands branches name = list_any (λ branch. has_patch branch.1 name) branches
 
--- the tree that primitives, in order, lead to from this one, if each applies
+-- the tree that primitives, one after the other, lead to, if each applies
 abbrev pub tree_after : Files → List Named → Option Files
 tree_after tree [] = Some tree
 tree_after tree (p ∷ ps) = option_and_then (λ next. tree_after next ps) (applied p.prim tree)

@@ -1,4 +1,4 @@
--- The decision on a call. Each kind of call has its tests, in an order, and the first that fails decides.
+-- The decision on a call. Each kind of call has tests, made in a given order; the first that fails decides.
 use Rattle.std.specs.Prelude.{ℕ, ◌+◌, Bool, true, false, not, ◌&&◌, ◌||◌, nat_le, nat_lt, if◌then◌else◌, List, [], ◌∷◌, ◌++◌}
 use Rattle.std.specs.Prelude.{length, filter, Option, None, Some, Result, Ok, Err, bytes_eq, is_some}
 use Rattle.std.specs.Option.{option_map_or}
@@ -37,15 +37,15 @@ Decision = Decided Contents Reply
 abbrev pub refused : Refusal → Decision
 refused refusal = Answer (reply.Refused refusal)
 
--- one more call is accepted, and the branches become these
+-- the decision that accepts one more call, after which these are the branches
 abbrev pub accepted : Contents → Branches → Decision
 accepted state branches = Next (after state branches)
 
--- continues with the catches of a branch; refuses if there is no branch of the name
+-- continues with the catches of the branch of a name; refuses if there is none
 abbrev pub with_branch : Contents → List ℕ → (List Catch → Decision) → Decision
 with_branch state name goes_on = option_map_or goes_on (catches_of state.branches name) (refused (NoBranch name))
 
--- refuses if a test is true, else continues
+-- refuses if a test finds a reason, else continues
 abbrev pub refused_if : Bool → Refusal → Decision → Decision
 refused_if fails refusal goes_on = if fails then refused refusal else goes_on
 
@@ -55,12 +55,12 @@ refusal_of (blocked.Depends patch on) = Depends patch on
 refusal_of (blocked.Diverged name) = Diverged name
 refusal_of (blocked.NoMerge left right) = NoMerge left right
 
--- the branch of a name becomes the outcome of a pull or an obliteration, or the call is refused
+-- the decision for an outcome of the branch of a name: a state with the new branch, or a refusal
 abbrev pub becomes : Contents → List ℕ → Outcome → Decision
 becomes state branch (Ok catches) = accepted state (with_catches state.branches branch catches)
 becomes state branch (Err why) = refused (refusal_of why)
 
--- a branch is copied; the copy comes last, and there are at most as many branches as the limits of the state allow
+-- the decision on copying a branch: the copy is the last branch, and the limit of branches is not exceeded
 abbrev pub step_branch : Contents → List ℕ → List ℕ → Decision
 step_branch state new from =
     with_branch state from (λ catches.
@@ -82,42 +82,42 @@ has_long_side (Add path) = false
 has_long_side (Remove path) = false
 has_long_side (Hunk hunk) = nat_lt longest_side (length hunk.old) || nat_lt longest_side (length hunk.new)
 
--- the file of a path is longer than a record allows
+-- the file that a change leaves is longer than a record allows
 abbrev pub has_long_file : List ℕ → Files → Bool
 has_long_file path tree = option_map_or (λ lines. nat_lt longest_file (length lines)) (get tree path) false
 
--- the tree after a change, if its file is not too long, or a refusal
+-- the tree after a change, or the refusal if the change does not apply or its file is too long
 abbrev pub led_to : Primitive → Option Files → Result Files Refusal
 led_to change None = Err DoesNotApply
 led_to change (Some tree) = if has_long_file (path_of change) tree then Err TooLarge else Ok tree
 
--- the same, from the tree before it
+-- continues with the tree before it, or keeps the refusal
 abbrev pub then_from : Result Files Refusal → (Files → Result Files Refusal) → Result Files Refusal
 then_from (Ok tree) goes_on = goes_on tree
 then_from (Err refusal) goes_on = Err refusal
 
--- the tree after changes, each applied to the tree that those before it give; the first that fails decides
+-- the tree after changes, applied one after the other, or the refusal of the first that fails
 abbrev pub changed : List Primitive → Files → Result Files Refusal
 changed [] tree = Ok tree
 changed (change ∷ changes) tree = then_from (led_to change (applied change tree)) (changed changes)
 
--- the decision on a record whose changes lead to a tree, or to a refusal
+-- the decision on a record, given the tree that its changes lead to or their refusal
 abbrev pub record_leads : Contents → List ℕ → List Catch → Result Files Refusal → Decision
 record_leads state branch catches (Ok tree) = accepted state (with_catches state.branches branch catches)
 record_leads state branch catches (Err refusal) = refused refusal
 
--- the number of changes is one that a patch may have, as in each record that a program can hold
+-- the number of changes is that of a patch: 1 to 64, as in each record that a program can represent
 abbrev pub is_patch_sized : List Primitive → Bool
 is_patch_sized changes = nat_le 1 (length changes) && nat_le (length changes) most_changes
 
--- a record is too large for a branch with this limit: the branch would have more catches, or a side of a hunk is too
--- long; or it does not have the size of a patch, which no program reaches
+-- a record is too large for a branch with this limit: the branch would have more catches, a side of a hunk is too long,
+-- or the record does not have 1 to 64 changes, which no record of a program has
 abbrev pub is_too_large : ℕ → List Catch → List Primitive → Bool
 is_too_large most catches changes =
     nat_lt most (length catches + length changes) || (list_any has_long_side changes || not (is_patch_sized changes))
 
--- a patch is appended to a branch as a whole or not at all; the branch has at most as many catches as the limits of
--- the state allow
+-- the decision on a record: the whole patch is appended to a branch, or nothing is; the limit of catches is not
+-- exceeded
 abbrev pub step_record : Contents → List ℕ → List ℕ → List Primitive → Decision
 step_record state branch name changes =
     with_branch state branch (λ catches.
@@ -127,7 +127,7 @@ step_record state branch name changes =
     (λ tree. record_leads state branch (catches ++ recorded name 1 changes) (changed changes tree))
     (tree_of catches) (refused DoesNotApply))))
 
--- continues if a branch has a patch of each listed name
+-- continues if a branch has all listed patches, else refuses
 abbrev pub with_patches : List Catch → List (List ℕ) → Decision → Decision
 with_patches catches names goes_on = option_map_or (λ name. refused (NoPatch name)) (first_lacked catches names) goes_on
 
@@ -140,7 +140,7 @@ listed theirs (Some names) = names
 abbrev pub wanted : List Catch → List (List ℕ) → List (List ℕ)
 wanted ours names = filter (λ name. not (has_patch ours name)) names
 
--- a list is empty
+-- a list is given and has no name
 abbrev pub is_empty : List (List ℕ) → Bool
 is_empty [] = true
 is_empty (name ∷ names) = false
@@ -149,18 +149,19 @@ is_empty (name ∷ names) = false
 abbrev pub catches_named : List (List ℕ) → List Catch → List Catch
 catches_named names catches = filter (λ k. is_among names (name_of k)) catches
 
--- a branch would exceed this limit with the catches of these names of another branch
+-- a branch would exceed this limit of catches with those of these patches of another branch
 abbrev pub is_full_with : ℕ → List Catch → List Catch → List (List ℕ) → Bool
 is_full_with most ours theirs names = nat_lt most (length ours + length (catches_named names theirs))
 
--- patches of these names are pulled into a branch, which has at most as many catches as the limits of the state allow
+-- the decision on a pull of these names into a branch; the limit of catches is not exceeded
 abbrev pub pull_wanted : Contents → List ℕ → List Catch → List Catch → List (List ℕ) → Decision
 pull_wanted state to theirs ours names =
     refused_if (is_empty names) NothingToDo (
     refused_if (is_full_with state.limits.catches ours theirs names) TooLarge (
     becomes state to (pulled theirs ours names)))
 
--- patches of one branch are pulled into another: those listed that it lacks, or all that it lacks
+-- the decision on a pull from one branch into another: of the listed patches that it lacks or, without a list, of all
+-- that it lacks
 abbrev pub step_pull : Contents → List ℕ → List ℕ → Option (List (List ℕ)) → Decision
 step_pull state from to names =
     with_branch state from (λ theirs.
@@ -169,7 +170,7 @@ step_pull state from to names =
     with_patches theirs (listed theirs names) (
     pull_wanted state to theirs ours (wanted ours (listed theirs names))))))
 
--- patches are removed from a branch
+-- the decision on removing patches from a branch
 abbrev pub step_obliterate : Contents → List ℕ → List (List ℕ) → Decision
 step_obliterate state branch names =
     with_branch state branch (λ catches.
@@ -177,7 +178,7 @@ step_obliterate state branch names =
     refused_if (is_empty names) NothingToDo (
     becomes state branch (obliterated catches names))))
 
--- the tree of a branch, which a lawful state has
+-- the decision on a question for the tree of a branch
 abbrev pub shown : Option Files → Decision
 shown None = refused DoesNotApply
 shown (Some tree) = Answer (reply.Tree tree)

@@ -1,4 +1,4 @@
-//! What a state knows of the common prefixes of its branches.
+//! What a state stores about common prefixes of its branches.
 ghost use Rattle.std.specs.Prelude.{◌≡◌, ◌<◌, ◌↔◌, List, [], Some, length, slice_get, IfOk, IfSome, IsTrue};
 ghost use Rattle.std.specs.List.{AllByRecursion};
 ghost use Rattle.camp_branch.specs.Agreeing.{Agree};
@@ -9,11 +9,10 @@ use camp_share::{Share, SharedList};
 use std::alloc::{AllocError, Global};
 use std::marker::Model;
 
-/// The most pairs of branches of which a state keeps the length of their common prefix.
+/// The most pairs of branches for which a state stores the length of a common prefix.
 const MAX_PAIRS: usize = 64;
 
-/// Two branches, by their indexes in the order of creation, and the length of the prefixes that are known to
-/// agree.
+/// Two branches, by their indexes in the order of creation, and a length for which their prefixes agree.
 #[derive(Clone, Copy, Debug, PartialEq, Eq)]
 pub(crate) struct KnownBeginning {
     pub(crate) from: usize,
@@ -27,8 +26,8 @@ impl Share for KnownBeginning {
     }
 }
 
-/// For pairs of branches, a length for which their prefixes are known to agree. At most `MAX_PAIRS` pairs: one more
-/// drops the oldest. A pair whose length is updated keeps its age.
+/// Pairs of branches, each with a length for which their prefixes agree. At most `MAX_PAIRS` pairs: one more drops the
+/// oldest. Updating the length of a pair does not make it newer.
 #[derive(Drop)]
 pub(crate) struct KnownBeginnings {
     beginnings: SharedList<KnownBeginning>,
@@ -53,7 +52,7 @@ impl KnownBeginnings {
         }
     }
 
-    /// Returns the length of the prefixes of two branches that are known to agree: 0 if nothing is known.
+    /// Returns a length for which the prefixes of two branches agree; 0 if none is stored.
     pub(crate) fn between(&self, from: usize, to: usize) -> usize
         ensures { (branches : List (List Catch)) → AllByRecursion (AgreesIn branches) self.now
             → (theirs ours : List Catch) → slice_get branches from ≡ Some theirs → slice_get branches to ≡ Some ours
@@ -67,7 +66,7 @@ impl KnownBeginnings {
         0
     }
 
-    /// Returns all pairs with the length of the agreeing prefixes of two branches set.
+    /// Returns the list with this length stored for two branches.
     pub(crate) fn learned(
         &self,
         from: usize,
@@ -81,8 +80,9 @@ impl KnownBeginnings {
         Ok(KnownBeginnings { beginnings })
     }
 
-    /// Returns the pairs together with those of a new branch, a copy of branch `of`: the copy agrees with `of` for the
-    /// length `long`, and with any other branch as far as `of` does. Drops the oldest pairs beyond the limit.
+    /// Returns the list with the pairs of a new branch added, which is a copy of branch `of`: the copy agrees with `of`
+    /// for the length `long`, and with any other branch as far as `of` does. Beyond the limit the oldest pairs are
+    /// dropped.
     pub(crate) fn copied(
         &self,
         of: usize,
@@ -100,7 +100,7 @@ impl KnownBeginnings {
         Ok(KnownBeginnings { beginnings })
     }
 
-    /// Copies the list, which shares everything with the copy.
+    /// Makes a copy that shares everything with the list.
     pub(crate) fn try_clone(&self) -> Result<KnownBeginnings, AllocError>
         ensures { IfOk result (λ copy. copy ≡ self.now) }
     {
@@ -115,8 +115,8 @@ fn is_of(beginning: &KnownBeginning, from: usize, to: usize) -> bool
     beginning.from == from && beginning.to == to
 }
 
-/// Returns all pairs with the length for two branches set, at the position of their pair if there is one.
-/// Beyond the limit the oldest pair is dropped.
+/// Returns the list with this length stored for two branches: in their pair if there is one, else in a new pair at the
+/// end. Beyond the limit the oldest pair is dropped.
 fn with_beginning(
     known: &SharedList<KnownBeginning>,
     from: usize,
@@ -137,7 +137,7 @@ fn with_beginning(
     others.pushed(beginning)
 }
 
-/// Returns all pairs followed by those that hold of a copy of a branch too, up to the limit.
+/// Returns the list and, after it, each pair of branch `of` once more with `of` replaced by its copy, up to the limit.
 fn with_pairs_of_copy(
     known: &SharedList<KnownBeginning>,
     of: usize,
@@ -158,7 +158,7 @@ fn with_pairs_of_copy(
     Ok(all)
 }
 
-/// Returns the pair with branch `of` replaced by its copy, or `None` if `of` is not in the pair.
+/// Returns the pair with its branch `of` replaced by a copy of that branch; `None` if `of` is not in the pair.
 fn of_copy(beginning: &KnownBeginning, of: usize, copy: usize) -> Option<KnownBeginning>
     ensures { IfSome result (λ other. (branches : List (List Catch)) → AgreesIn branches beginning.now
         → slice_get branches copy ≡ slice_get branches of → AgreesIn branches other) }
@@ -185,7 +185,7 @@ fn of_copy(beginning: &KnownBeginning, of: usize, copy: usize) -> Option<KnownBe
 fn place_of(known: &SharedList<KnownBeginning>, from: usize, to: usize) -> Option<usize>
     ensures { IfSome result (λ at. at < length known.now) }
 {
-    // States a fact for the prover: a length fits in a `usize`.
+    // A fact for the prover: a length fits in a `usize`.
     prove!(known.len() <= usize::MAX);
     known
         .iter()

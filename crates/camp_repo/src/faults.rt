@@ -1,7 +1,7 @@
 //! The errors of making limits.
 use thiserror::Error;
 
-/// Why two numbers are not the limits of a repository.
+/// Which of two numbers is out of range as a limit.
 #[derive(Clone, Copy, PartialEq, Eq, Debug, Error)]
 pub enum LimitFault {
     #[error("a branch may have 1 to 16777216 changes")]

@@ -1,4 +1,4 @@
-//! New repositories, with which a history can begin.
+//! New repositories, the initial states of histories.
 ghost use Rattle.std.specs.Prelude.{◌≡◌, IfOk};
 ghost use Rattle.camp_object.specs.Books.{new_book};
 ghost use Rattle.camp_object.specs.Objects.{IsFirst};
@@ -8,7 +8,7 @@ ghost use Rattle.camp_repo.specs.States.{new_within};
 use crate::{Book, Limits, State};
 use std::alloc::{AllocError, Global};
 
-/// Makes a new repository with these limits, as [`State::with_limits`] does: a history can begin with it.
+/// Makes a new repository with these limits, as [`State::with_limits`] does, as the initial state of a history.
 pub fn first_state(alloc: Global, limits: Limits) -> Result<State, AllocError>
     ensures exact { IfOk result (λ state. state ≡ new_within limits) }
     ensures first { IfOk result (IsFirst repository) }

@@ -14,8 +14,8 @@ pub fn steps_keep_lawful()
     ensures law { StepsKeepLawful }
 {}
 
-/// A copy of a branch comes last; a record appends its patch to its branch; a pull appends the wanted patches
-/// to its branch; an obliteration keeps the others. No other branch changes, and one more call is counted.
+/// An accepted branch call appends the copy as the last branch; a record appends its patch to its branch, and a pull
+/// the wanted patches; an obliteration keeps the other patches. No other branch changes, and one more call is counted.
 pub fn accepted_calls_have_effect()
     ensures law { AcceptedCallsHaveEffect }
 {}
@@ -51,7 +51,7 @@ pub fn states_hold_their_limits()
     ensures law { StatesHoldTheirLimits }
 {}
 
-/// Without given limits a repository has 4,096 catches in a branch and 256 branches at most.
+/// With the default limits a repository has at most 4,096 catches in a branch, and at most 256 branches.
 #[tactic(auto, using(crate::proofs::LimitSteps::default_limits_hold))]
 pub fn default_limits_hold()
     ensures law { DefaultLimitsHold }

@@ -39,7 +39,7 @@ impl Clone for Limits {
 
 impl Copy for Limits {}
 
-/// The limits of a repository that was given none: 4,096 catches of a branch, and 256 branches.
+/// Returns the default limits: 4,096 catches in a branch, and 256 branches.
 impl Default for Limits {
     ghost is_default = { λ limits. limits ≡ default_bounds };
 
@@ -71,7 +71,7 @@ impl Limits {
         Ok(Limits { catches, branches })
     }
 
-    /// True if these are the limits of another repository too.
+    /// True if both limits are equal.
     #[tactic(auto, using(crate::proofs::SameLimits::same_bounds))]
     pub(crate) fn is_same(&self, other: &Limits) -> bool
         ensures exact { IsTrue result ↔ (self.now ≡ other.now) }
@@ -82,7 +82,7 @@ impl Limits {
         self.branches() == other.branches()
     }
 
-    /// The most catches of a branch.
+    /// Returns the most catches of a branch.
     pub fn catches(&self) -> usize
         ensures value { result ≡ self.now.catches }
         ensures some { 0 < result }

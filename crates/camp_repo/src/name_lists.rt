@@ -31,8 +31,8 @@ pub(crate) fn lists_none(names: &Option<Names>) -> bool
         .is_some_and(|names| names.as_slice().is_empty())
 }
 
-/// Returns the listed names or, without a list, all names of `theirs`, of which `ours` has no patch. The
-/// prefixes of the two of this length agree.
+/// Returns the listed names, or all names of `theirs` if there is no list, without those of which `ours` has a patch.
+/// `long` is a length for which the prefixes of the two agree.
 pub(crate) fn wanted(
     ours: &Branch,
     theirs: &Branch,
@@ -49,8 +49,8 @@ pub(crate) fn wanted(
     }
 }
 
-/// Returns the names of the patches that `theirs` has and `ours` lacks. Prefixes of the two agree, so only
-/// the catches of `theirs` after its prefix are read.
+/// Returns the names of the patches that `theirs` has and `ours` lacks. Reads only the catches of `theirs` after the
+/// prefix that agrees.
 fn wanted_behind(ours: &Branch, theirs: &Branch, long: usize) -> Result<NameSet, AllocError>
     requires { Agree theirs.now ours.now long }
     ensures { IfOk result (λ set. (name : List ℕ) →
@@ -66,7 +66,7 @@ fn wanted_behind(ours: &Branch, theirs: &Branch, long: usize) -> Result<NameSet,
     Ok(set_of(alloc, &lacked)?)
 }
 
-/// Returns the names of which a branch has no patch.
+/// Returns those of the names of which a branch has no patch.
 fn wanted_of(branch: &Branch, names: &[Name]) -> Result<NameSet, AllocError>
     ensures { IfOk result (λ set. (name : List ℕ) →
         is_among (names_in set) name ≡ is_among (wanted branch.now names.now) name) }
@@ -80,8 +80,8 @@ fn wanted_of(branch: &Branch, names: &[Name]) -> Result<NameSet, AllocError>
     Ok(set_of(alloc, &lacked)?)
 }
 
-/// True if `ours` would be too long with the catches of these names that `theirs` has. `ours` has none of the names,
-/// and the prefixes of length `long` of the two agree, so only the catches after them are counted.
+/// True if `ours` would be too long with those catches of `theirs` that have these names. `ours` has none of the names,
+/// and the prefixes of length `long` agree, so only the catches after them are counted.
 pub(crate) fn is_full_with(
     limits: Limits,
     ours: &Branch,
@@ -120,7 +120,7 @@ fn count_behind(branch: &Branch, names: &NameSet, from: usize) -> usize
     ensures { result ≡ length (catches_named (names_in names.now) (drop from branch.now)) }
 {
     let catches = branch.catches();
-    // States a fact for the prover: a length fits in a `usize`.
+    // A fact for the prover: a length fits in a `usize`.
     prove!(catches.len() <= usize::MAX);
     catches
         .iter_from(from)

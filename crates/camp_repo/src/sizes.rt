@@ -39,8 +39,7 @@ fn is_long(change: &Primitive) -> bool
     }
 }
 
-/// Returns the tree after all changes, each made in the tree that those before it give, or the reason why one
-/// of them can't be made.
+/// Returns the tree after all changes, applied one after the other, or the refusal of the first that can't be applied.
 pub(crate) fn changed(tree: &Tree, changes: &[Primitive]) -> Result<Tree, Unmade<Refusal>>
     ensures { GivesOrRunsOut (λ led. led ≡ changed changes.now tree.now) result }
 {
@@ -58,7 +57,7 @@ pub(crate) fn changed(tree: &Tree, changes: &[Primitive]) -> Result<Tree, Unmade
     Ok(next)
 }
 
-/// True if the file of a change is too long in the tree after it: only a hunk can make it so.
+/// True if the file of a hunk is too long in the tree after it; false for an add or a remove.
 fn leaves_long_file(change: &Primitive, tree: &Tree) -> bool
     requires led { (old : Files) × Applies change.now old tree.now }
     ensures { result ≡ has_long_file (path_of change.now) tree.now }

@@ -104,7 +104,7 @@ impl State {
         Some(branch)
     }
 
-    /// Copies the state, which shares everything with the copy.
+    /// Makes a copy that shares everything with the state.
     pub fn try_clone(&self) -> Result<State, AllocError>
         ensures exact { IfOk result (λ copy. copy ≡ self.now) }
     {
@@ -139,7 +139,7 @@ impl State {
         is_in_some(&self.branches, name)
     }
 
-    /// Returns the branch of a name, and its index in the order of creation.
+    /// Returns the branch of a name and its index in the order of creation, if there is one.
     pub(crate) fn find(&self, name: &Name) -> Option<(usize, &Branch)>
         ensures value { MatchOption result
             (catches_of self.now.branches name.now ≡ None)
@@ -159,7 +159,7 @@ impl State {
         Some((place, branch))
     }
 
-    /// Returns the length of the prefixes of two branches, given by their indexes, that are known to agree.
+    /// Returns a length for which the prefixes of two branches, given by their indexes, agree.
     pub(crate) fn agreed(&self, from: usize, to: usize) -> usize
         ensures { (theirs ours : List Catch) → slice_get (catches_in self.now.branches) from ≡ Some theirs
             → slice_get (catches_in self.now.branches) to ≡ Some ours → Agree theirs ours result }
@@ -167,8 +167,8 @@ impl State {
         self.known.between(from, to)
     }
 
-    /// Returns the state after one more accepted call, in which the branch at an index has grown to this one.
-    /// What is known of common prefixes stays true.
+    /// Returns the state after one more accepted call, which has appended catches to the branch at an index. What is
+    /// stored about common prefixes stays true.
     pub(crate) fn with_grown(&self, place: usize, branch: Branch) -> Result<State, AllocError>
         requires counts { self.now.count < 2 ^ 64 - 1 }
         requires grown { (old : List Catch) × (more : List Catch)
@@ -181,7 +181,8 @@ impl State {
         self.with_branch_at(place, branch, known)
     }
 
-    /// The same after a pull from the branch at another index. The prefixes of the two of this length agreed.
+    /// Returns the same after a pull from the branch at another index; stores the length for which the prefixes of the
+    /// two agreed.
     pub(crate) fn with_pulled(
         &self,
         from: usize,
@@ -202,8 +203,8 @@ impl State {
         self.with_branch_at(place, branch, known)
     }
 
-    /// Returns the state after one more accepted call, in which the branch at an index becomes this one. All
-    /// that was known of its common prefixes is dropped.
+    /// Returns the state after one more accepted call, which has replaced the branch at an index. Drops what was stored
+    /// about its common prefixes.
     pub(crate) fn with_replaced(&self, place: usize, branch: Branch) -> Result<State, AllocError>
         requires counts { self.now.count < 2 ^ 64 - 1 }
         requires within { place < length self.now.branches }
@@ -238,8 +239,8 @@ impl State {
         })
     }
 
-    /// Returns the state after one more accepted call, with a copy of the branch at an index. What is known
-    /// of that branch is known of the copy too.
+    /// Returns the state after one more accepted call, with a copy of the branch at an index. What is stored about that
+    /// branch is stored for the copy too.
     pub(crate) fn with_copy(
         &self,
         name: &Name,
@@ -281,7 +282,7 @@ fn with_name(
     Shared::new(alloc, all)
 }
 
-/// Returns the branches, with a copy of one appended.
+/// Returns the branches with one more appended, a copy of a given one.
 fn with_copy_behind(
     branches: &SharedList<Shared<Branch>>,
     branch: &Branch,

@@ -12,7 +12,7 @@ use camp_catch::Unmade;
 use std::alloc::AllocError;
 
 impl State {
-    /// Decides on a call. Each kind of call has its tests, in an order, and the first that fails decides.
+    /// Decides on a call. Each kind of call has tests, made in a given order; the first that fails decides.
     pub fn decide(&self, call: &Call) -> Result<Decided<State, Reply>, AllocError>
         requires { self.now.count < 2 ^ 64 - 1 }
         ensures exact { IfOk result (λ decided. decided ≡ step self.now call.now) }

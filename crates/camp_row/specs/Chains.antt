@@ -21,7 +21,7 @@ own_entries seat chain = filter (λ entry. entry.seat == seat) chain
 abbrev pub entry_count : ℕ → List Entry → ℕ
 entry_count seat chain = length (own_entries seat chain)
 
--- the cell of an entry: the n-th entry of seat s, n from 0, has cell n * seats + s
+-- the cell of an entry: the n-th entry of seat s, counted from 0, has cell n * seats + s
 abbrev pub cell_of : ℕ → List Entry → Entry → ℕ
 cell_of seats before entry = entry_count entry.seat before * seats + entry.seat
 
@@ -34,7 +34,7 @@ head_after seats before word (entry ∷ later) =
 abbrev pub head_word : ℕ → List Entry → ℕ
 head_word seats chain = head_after seats [] 0 chain
 
--- each entry is by a seat of the row, and no seat has more entries than cells
+-- each entry is of a seat of the row, and no seat has more entries than cells
 abbrev pub FitsRow : ℕ → ℕ → List Entry → Type 0
 FitsRow seats per_seat chain = (before : List Entry) (entry : Entry) (after : List Entry) → before ++ entry ∷ after ≡ chain
     → (entry.seat < seats) × (entry_count entry.seat before < per_seat)

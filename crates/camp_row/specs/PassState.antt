@@ -1,4 +1,4 @@
--- A row, a pass to it, and a walk back along its chain, as contracts see them.
+-- Rows, passes to them, and walks back along their chains, as contracts see them.
 use Rattle.std.specs.Prelude.{◌≡◌, ◌≢◌, ◌⊎◌, ℕ, ◌<◌, List, [], ◌∷◌, ◌++◌}
 use Rattle.atomic_table.specs.Seated.{TableId}
 use Rattle.camp_row.specs.declared.entries.Entry.{Entry}
@@ -33,32 +33,33 @@ pub record PassState : Type 0 where
 abbrev pub new_pass : RowId → ℕ → PassState
 new_pass row number = record { row = row; number = number; seen = []; ahead = []; parent = 0; index = 0 }
 
--- what was seen is a prefix of the chain that was found, in which the seat has no entry that its pass has not seen
+-- the invariant of a pass: what it has seen is a prefix of the chain that it found, and all its seat's entries there
+-- are in that prefix
 pub record IsSound (known : PassState) : Type 0 where
   pub prefix : IsPrefix known.seen known.ahead
   pub own_seen : own_entries known.number known.ahead ≡ own_entries known.number known.seen
 
--- the pass finds the chain as it is now: it has only grown, it begins with what was seen, and the seat has no new
--- entry in it
+-- the pass finds the chain as it is now: it has only grown, begins with what the pass has seen, and has no new entry of
+-- the pass's seat
 pub record FindsChain (old new : PassState) : Type 0 where
   pub is : new ≡ record old { ahead = new.ahead }
   pub grows : IsPrefix old.ahead new.ahead
   pub sound : IsSound new
 
--- the cells of the entries after the prefix `before` of a chain, newest first
+-- the cells of the entries of a chain after the prefix `before`, newest first
 abbrev pub cells_back : ℕ → List Entry → List Entry → List ℕ
 cells_back seats before [] = []
 cells_back seats before (entry ∷ later) =
     cells_back seats (before ++ entry ∷ []) later ++ cell_of seats before entry ∷ []
 
--- the trail leads from what was seen to the end of the chain that was found: it has the cells between,
--- the oldest on top
+-- the trail leads from what the pass has seen to the end of the chain that it found: it has the cells between, the
+-- oldest on top
 pub record IsTrail (known : PassState) (seen : List Entry) (trail : List ℕ) : Type 0 where
   pub left : List Entry
   pub is : seen ++ left ≡ known.ahead
   pub cells : trail ≡ cells_back known.row.seats seen left
 
--- the cell is that of an entry of the chain that was found
+-- the cell belongs to an entry of the chain that the pass found
 pub record IsOnChain (known : PassState) (cell : ℕ) : Type 0 where
   pub before : List Entry
   pub entry : Entry
@@ -66,7 +67,7 @@ pub record IsOnChain (known : PassState) (cell : ℕ) : Type 0 where
   pub is : before ++ entry ∷ later ≡ known.ahead
   pub cell_is : cell ≡ cell_of known.row.seats before entry
 
--- the entry is the next one in the chain that was found, and is of a seat of the row
+-- the entry is the next one in the chain that the pass found, and is of a seat of the row
 pub record IsNextEntry (known : PassState) (next : Next) : Type 0 where
   pub later : List Entry
   pub is : known.seen ++ next.entry ∷ later ≡ known.ahead
@@ -82,22 +83,23 @@ IsDrafted known = known.parent ≡ head_word known.row.seats known.seen
 abbrev pub with_draft : PassState → ℕ → PassState
 with_draft known index = record known { parent = head_word known.row.seats known.seen; index = index }
 
--- the entry that the seat's drafted cell makes
+-- the entry that the seat's next cell becomes when it is published
 abbrev pub drafted : PassState → Entry
 drafted known = record { seat = known.number; index = known.index }
 
--- the pass after the drafted cell became the last of the chain
+-- the pass after its seat's next cell was published as the last of the chain
 abbrev pub won : PassState → PassState
 won known =
     let entries = known.seen ++ drafted known ∷ [] in
     record known { seen = entries; ahead = entries; parent = 0; index = 0 }
 
--- a compare-exchange succeeded: the chain was exactly what was seen; the drafted cell is now its last, and is seen
+-- a compare-exchange that succeeded: the chain was exactly what the pass has seen; the drafted cell is now its last,
+-- and the pass has seen it
 pub record Won (old new : PassState) : Type 0 where
   pub whole : old.ahead ≡ old.seen
   pub is : new ≡ won old
 
--- a compare-exchange failed: the chain was longer than what was seen, and the pass finds it
+-- a compare-exchange that failed: the chain was longer than what the pass has seen, and the pass has now found it
 pub record Lost (old new : PassState) : Type 0 where
   pub is : new ≡ record old { ahead = new.ahead }
   pub grows : IsPrefix old.ahead new.ahead

@@ -5,7 +5,7 @@ ghost use Rattle.camp_row.specs.Inside.Parts.{Part};
 
 use std::marker::Model;
 
-/// A view of the table: what each of some seats knows. A ghost type: no value of it is made.
+/// A view of the table: what some seats know. A ghost type: it has no values at run time.
 pub struct Knowledge {
     pub ghost parts: { List Part },
 }

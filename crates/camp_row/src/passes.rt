@@ -5,7 +5,7 @@ use crate::knowledge::Knowledge;
 use atomic_table::Seat;
 use std::marker::Model;
 
-/// The right to publish the cells of one seat, and what its holder has seen. It can be sent to another
+/// The right to publish the cells of one seat, together with what its holder has seen. It can be sent to another
 /// thread. Contracts see it as `PassState`.
 #[derive(Drop)]
 pub struct Pass {

@@ -14,7 +14,7 @@ use atomic_table::{Seat, Table};
 use std::alloc::{AllocError, Global};
 use std::marker::Model;
 
-/// The words, which threads share by a `&`. Contracts see it as `RowId`.
+/// Atomic words that threads share by reference. Contracts see them as `RowId`.
 #[derive(Drop)]
 pub struct Row {
     table: Table<(), Knowledge, Sizes, RowRule, Global>,
@@ -54,8 +54,8 @@ impl Row {
     ghost use Rattle.camp_row.specs.Inside.Parts.{all_fresh};
     ghost use Rattle.camp_row.specs.PassState.{most_cells, most_seats, new_pass, FindsChain, IsSound, IsTrail, IsOnChain, IsNextEntry, IsDrafted, with_draft, Won, Lost, OneIsPrefix};
 
-    /// Makes a row with nothing published, and a pass for each of its seats, in their order. The row has `1 +
-    /// 2 * seats * per_seat` words of eight bytes; twice that is allocated while it is made.
+    /// Makes a row without published cells, and a pass for each of its seats, in their order. The row has `1 + 2 *
+    /// seats * per_seat` words of eight bytes; twice that is allocated while it is made.
     pub fn new(alloc: Global, seats: u32, per_seat: u32) -> Result<(Row, Vec<Pass>), AllocError>
         requires seats { (0 < seats) × (seats ≤ most_seats) }
         requires per_seat { (0 < per_seat) × (per_seat ≤ most_cells) }
@@ -73,7 +73,7 @@ impl Row {
         Ok((row, passes))
     }
 
-    // Splits the seat of the whole table into one pass for each seat.
+    // Splits the view of the whole table into one pass for each seat.
     fn make_passes(
         &self,
         alloc: Global,
@@ -113,7 +113,7 @@ impl Row {
         self.per_seat
     }
 
-    /// Loads the head word, and so finds the chain as it is now.
+    /// Loads the head word: the pass has then found the chain as it is now.
     pub fn find_chain(&self, pass: &mut Pass)
         requires { pass.old.row ≡ self.now }
         ensures finds { FindsChain pass.old pass.new }
@@ -121,7 +121,8 @@ impl Row {
         pass.head = self.table.shared.load::<LoadHead>(&mut pass.seat, 0);
     }
 
-    /// Walks back along the chain that was found, to what the pass has seen. Allocates for each cell between.
+    /// Walks back from the end of the chain that the pass found to what it has seen. Allocates for each cell on the
+    /// way.
     pub fn walk(&self, alloc: Global, pass: &mut Pass) -> Result<Trail, AllocError>
         requires { pass.old.row ≡ self.now }
         ensures same { pass.new ≡ pass.old }
@@ -138,7 +139,7 @@ impl Row {
         Ok(Trail { cells })
     }
 
-    /// Takes the next entry off the trail. The pass has not seen it yet.
+    /// Removes the next entry from the trail and returns it. The pass has not seen it yet.
     pub fn next(&self, pass: &mut Pass, trail: &mut Trail) -> Option<Next>
         requires row { pass.old.row ≡ self.now }
         requires leads { IsTrail pass.old pass.old.seen trail.old }
@@ -152,7 +153,7 @@ impl Row {
         Some(Next { entry, cell })
     }
 
-    /// Returns the entry at an index of the trail, counted from the next one. The pass does not see it.
+    /// Returns the entry at an index of the trail, counted from the next one, without marking it as seen.
     pub fn entry_at(&self, pass: &mut Pass, trail: &Trail, index: usize) -> Entry
         requires row { pass.old.row ≡ self.now }
         requires leads { IsTrail pass.old pass.old.seen trail.now }
@@ -165,7 +166,7 @@ impl Row {
         self.entry_of(pass, cell)
     }
 
-    // Returns the entry of a cell of the chain that was found.
+    // Returns the entry of a cell of the chain that the pass found.
     fn entry_of(&self, pass: &mut Pass, cell: usize) -> Entry
         requires row { pass.old.row ≡ self.now }
         requires on_chain { IsOnChain pass.old cell }
@@ -218,8 +219,8 @@ impl Row {
         pass.published as usize * self.seats as usize + pass.number as usize
     }
 
-    /// Writes the seat's next cell: the last cell that was seen as its parent, and `index`, any number of the
-    /// caller's.
+    /// Writes the seat's next cell: as its parent the last cell that the pass has seen, and as its index any number
+    /// that the caller gives.
     pub fn draft(&self, pass: &mut Pass, index: usize)
         requires row { pass.old.row ≡ self.now }
         requires room { entry_count pass.old.number pass.old.seen < self.now.per_seat }
@@ -231,8 +232,8 @@ impl Row {
         shared.store::<DraftIndex>(&mut pass.seat, index_word(cell), index as u64);
     }
 
-    /// Publishes the drafted cell as the last of the chain by one compare-exchange; true if it succeeded. It
-    /// succeeds exactly if the chain is what the pass has seen; else the pass has found the longer chain.
+    /// Publishes the drafted cell as the last of the chain by one compare-exchange. True if it succeeded, which it does
+    /// exactly if the chain is what the pass has seen; else the pass has found the longer chain.
     pub fn publish(&self, pass: &mut Pass) -> bool
         requires row { pass.old.row ≡ self.now }
         requires room { entry_count pass.old.number pass.old.seen < self.now.per_seat }

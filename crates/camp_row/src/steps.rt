@@ -1,4 +1,4 @@
-//! The invariant of the table, and its six kinds of atomic step; there are no others.
+//! The invariant of the table, and its six kinds of atomic steps; there are no others.
 ghost use Rattle.camp_row.specs.Inside.Parts.{all_fresh};
 ghost use Rattle.camp_row.specs.Inside.Rule.{IsRuled};
 ghost use Rattle.std.specs.Prelude.{◌≡◌};
@@ -57,7 +57,7 @@ impl Play<(), Knowledge> for Publish {
     ghost then = { λ step old found new. (new.1 ≡ old.1) × Tried step.first found old.0.parts new.0.parts };
 }
 
-/// A split of a seat.
+/// A split of one seat's view from a view.
 pub struct SplitSeat;
 
 impl Split<Knowledge> for SplitSeat {
@@ -66,7 +66,7 @@ impl Split<Knowledge> for SplitSeat {
     ghost right = { first_apart };
 }
 
-/// A join of two seats.
+/// A join of two views.
 pub struct JoinSeats;
 
 impl Join<Knowledge> for JoinSeats {

@@ -5,12 +5,12 @@ use Rattle.camp_call.specs.declared.calls.Call.{Call}
 use Rattle.camp_script.specs.Reading.{script_of}
 use Rattle.camp_script.specs.declared.faults.LineFault.{LineFault}
 
--- the bytes that were read: if the content of the reader is known, they are all of it, and nothing is left
+-- these bytes were read: if the contents of the reader are known, they are exactly these, and nothing is left
 pub record ReadsAll (remaining rest : Option (List ℕ)) (bytes : List ℕ) : Type 0 where
   pub all : IfSome remaining (λ all. bytes ≡ all)
   pub end : IsAtEnd rest
 
--- the input was read to its end, and it is a script of these sections, or has this first fault
+-- the input was read to its end, and is a script of these sections, or has this first fault
 pub record ReadsAs (remaining rest : Option (List ℕ)) (script : Result (List (List Call)) LineFault) : Type 0 where
   pub bytes : List ℕ
   pub reads : ReadsAll remaining rest bytes

@@ -1,4 +1,4 @@
--- The result of a run, by the content of its reader and its writer, before and after, if that is known.
+-- The result of a run, given the contents of its reader and its writer, before and after, if they are known.
 use Rattle.std.specs.Prelude.{ℕ, Bool, List, Option, Result, Ok, Err}
 use Rattle.std.specs.Io.KnownBytes.{Appends, Keeps}
 use Rattle.camp_call.specs.declared.calls.Call.{Call}
@@ -16,8 +16,8 @@ pub record HasOutput (Relates : RunRelation) (wants_history : Bool) (remaining r
   pub is_output : IsOutput Relates wants_history script text
 
 -- Ok: a script was read, and exactly its output was written. A fault of the script: it is the first one, and nothing
--- was written. A foreign call, out of memory, or a failed reader: nothing was written. A failed writer: a script was
--- read, and a proper prefix of its output was written.
+-- was written. A foreign call, out of memory, or an error of the reader: nothing was written. An error of the writer: a
+-- script was read, and a proper prefix of its output was written.
 abbrev pub Runs : RunRelation → Bool
     → Option (List ℕ) → Option (List ℕ) → Option (List ℕ) → Result (Unit {0}) RunFault → Option (List ℕ) → Type 0
 Runs Relates wants_history remaining rest old (Ok done) new =
@@ -30,7 +30,7 @@ Runs Relates wants_history remaining rest old (Err Read) new = Keeps old new
 Runs Relates wants_history remaining rest old (Err Write) new =
     (text : List ℕ) × HasOutput Relates wants_history remaining rest text × AppendsBeginning old new text
 
--- why there is no text to write: a fault of the script is its first one; the writer cannot have failed yet
+-- why there is no text to write: the first fault of the script, a foreign call, out of memory or an error of the reader
 abbrev pub HasNoOutput : Option (List ℕ) → Option (List ℕ) → RunFault → Type 0
 HasNoOutput remaining rest (Script fault) = ReadsAs remaining rest (Err fault)
 HasNoOutput remaining rest Foreign = Unit {0}
@@ -38,7 +38,7 @@ HasNoOutput remaining rest Memory = Unit {0}
 HasNoOutput remaining rest Read = Unit {0}
 HasNoOutput remaining rest Write = ⊥
 
--- the fault is not `Foreign`, as in runs in which nobody else can have asked a call
+-- the fault is not `Foreign`; in such runs nobody else can ask a call
 abbrev pub IsNotForeign : RunFault → Type 0
 IsNotForeign (Script fault) = Unit {0}
 IsNotForeign Foreign = ⊥

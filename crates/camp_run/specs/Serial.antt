@@ -14,7 +14,7 @@ abbrev pub replies_from : Contents → List (List Call) → List (List Reply)
 replies_from state [] = []
 replies_from state (calls ∷ sections) = replies_to state calls ∷ replies_from (state_after state calls) sections
 
--- prepends a call to the calls that are accepted after it, if it is accepted itself
+-- the calls accepted after a given one, with that call before them if it is accepted itself
 abbrev pub booked : Decision → ℕ × Call → List (ℕ × Call) → List (ℕ × Call)
 booked (Next state) entry rest = entry ∷ rest
 booked (Answer answer) entry rest = rest

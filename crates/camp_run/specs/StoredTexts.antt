@@ -18,19 +18,19 @@ use Rattle.camp_script.specs.Reading.{script_of}
 abbrev pub moved_to_seat_0 : {Call : Type 0} → List (ℕ × Call) → List (ℕ × Call)
 moved_to_seat_0 history = map (λ entry. (0, entry.1)) history
 
--- the answers to accepted calls: consecutive positions, from a given one on
+-- the answers to accepted calls: consecutive positions, from this one on
 abbrev pub dones : ℕ → List Call → List (Result Reply Fault)
 dones at [] = []
 dones at (call ∷ calls) = Ok (Done at) ∷ dones (at + 1) calls
 
--- the text of a history is a script of one section; a new repository with these limits accepts each of its calls. They
--- lead to the same state, and to the same history with all seats 0
+-- the text of a history is a script of one section, and a new repository with these limits accepts each of its calls.
+-- They lead to the same state, and to the same history except that all calls are at seat 0
 pub record LeadsBack (limits : Bounds) (history : List (ℕ × Call)) (state : Contents) : Type 0 where
   pub reads : script_of (kept_text history) ≡ Ok (calls_of history ∷ [])
   pub is_serial : IsSerial limits (calls_of history ∷ []) (dones 1 (calls_of history) ∷ []) (moved_to_seat_0 history)
   pub leads : replay (repository_within limits) (moved_to_seat_0 history) ≡ Some state
 
--- this holds of each legal history of at most 65,536 calls that scripts can contain
+-- the same for each legal history of at most 65,536 calls that scripts can contain
 abbrev pub KeptLeadsBack : Type 0
 KeptLeadsBack = (limits : Bounds) (history : List (ℕ × Call)) (state : Contents) → replay (repository_within limits) history ≡ Some state
     → AllByRecursion CanStand (calls_of history) → length history ≤ most_writing_calls → LeadsBack limits history state
@@ -41,7 +41,7 @@ pub record ReadsBackExactly (limits : Bounds) (history : List (ℕ × Call)) : T
   pub reads : script_of (kept_text history) ≡ Ok (calls_of history ∷ [])
   pub is_serial : IsSerial limits (calls_of history ∷ []) (dones 1 (calls_of history) ∷ []) history
 
--- this holds if the calls of such a history are all at seat 0
+-- the same for each such history whose calls are all at seat 0
 abbrev pub SeatZeroIsPreserved : Type 0
 SeatZeroIsPreserved = (limits : Bounds) (history : List (ℕ × Call)) (state : Contents) → replay (repository_within limits) history ≡ Some state
     → AllByRecursion CanStand (calls_of history) → length history ≤ most_writing_calls

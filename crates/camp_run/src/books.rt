@@ -13,9 +13,9 @@ use camp_script::Script;
 use std::alloc::{AllocError, Global};
 use std::io::{Read, Write};
 
-/// Reads a whole script, executes its sections one after the other on a new repository with these limits,
-/// section k at seat k, and writes the answers, and the history if it is wanted. The input is read to its end before the first call,
-/// and the last call is answered before anything is written.
+/// Reads a whole script and executes its sections one after the other on a new repository with these limits, section k
+/// at seat k. Then writes the answers and, if it is wanted, the history. The input is read to its end before the first
+/// call, and the last call is answered before anything is written.
 pub fn run_book<R: Read, W: Write>(
     alloc: Global,
     limits: Limits,

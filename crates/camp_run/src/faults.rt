@@ -15,7 +15,7 @@ pub enum RunFault {
     Script(LineFault),
     /// The history has a call that no answer reports, or lacks one. Nothing was written.
     Foreign,
-    /// Nothing was written.
+    /// Memory ran out. Nothing was written.
     Memory,
     /// The reader failed. Nothing was run.
     Read,

@@ -18,13 +18,13 @@ use std::io::{Read, Write};
 use std::sync::Wait;
 use std::thread::Threads;
 
-/// The head keeps a snapshot at each multiple of this many calls.
+/// The distance, in calls, between the snapshots that the head keeps.
 const EVERY: u32 = 64;
 
-/// Reads a whole script and executes its sections over a head of a new repository with these limits, section k
-/// at seat k: the opening first, and then each client in a thread of its own, whose calls give up after `tries`
-/// lost exchanges, 1 to 1,000. The gate is notified of each call, by its index in its section, and of each exchange. Writes the answers, and
-/// the history if it is wanted, after the last thread was joined.
+/// Reads a whole script and executes its sections over a head of a new repository with these limits, section k at seat
+/// k: the opening first, and then each client in a thread of its own. A call gives up after `tries` lost exchanges, 1
+/// to 1,000. The gate is notified of each call, by its index in its section, and of each exchange. Writes the answers
+/// and, if it is wanted, the history, after the last thread was joined.
 pub fn run_head<T: Threads + Wait + Sync, R: Read, W: Write, G: Gate + Sync>(
     rt: &T,
     alloc: Global,
@@ -45,7 +45,7 @@ pub fn run_head<T: Threads + Wait + Sync, R: Read, W: Write, G: Gate + Sync>(
     )
 }
 
-/// The same. The section gate is notified of each section: `TurnGate` is both gates.
+/// Runs a script as `run_head` does, and notifies the section gate of each section; `TurnGate` is both gates.
 pub fn run_head_at<
     T: Threads + Wait + Sync,
     R: Read,

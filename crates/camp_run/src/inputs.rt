@@ -1,4 +1,4 @@
-//! The input of a run: all of it is read before anything is run.
+//! The input of a run: all of it is read before anything is executed.
 ghost use Rattle.std.specs.Prelude.{◌≡◌, ◌⊎◌, Ok, IfOk, IfErr};
 ghost use Rattle.camp_run.specs.Inputs.{ReadsAll, ReadsAs};
 ghost use Rattle.camp_run.specs.Runs.{HasNoOutput, IsNotForeign};

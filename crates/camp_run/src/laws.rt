@@ -1,4 +1,5 @@
-//! Laws of runs: what a script's answers and history have in common over a book, a lock and a head, and what its text gives back.
+//! Laws of runs: what the results of a script over a book, a lock and a head have in common, and what the text of a
+//! history gives back.
 ghost use Rattle.camp_run.specs.StoredTexts.{KeptLeadsBack, SeatZeroIsPreserved};
 ghost use Rattle.camp_run.specs.Laws.{LockedSectionIsSerial, OneByOneIsSerial, SharedSectionIsSerial};
 
@@ -20,15 +21,15 @@ pub fn one_by_one_is_serial()
     ensures law { OneByOneIsSerial }
 {}
 
-/// A history of at most 65,536 calls that leads to a state is preserved by its text: if it is read as a
-/// script and its calls are asked of a new repository, each is accepted, and they lead to the same state, and
-/// to the same history but for the seats.
+/// A history of at most 65,536 calls that leads to a state is preserved by its text: if the text is read as a script
+/// and its calls are asked of a new repository, each is accepted, and they lead to the same state, and to the same
+/// history except for the seats.
 pub fn kept_text_leads_back()
     ensures law { KeptLeadsBack }
 {}
 
-/// If all calls of such a history are at seat 0, its text is read as these calls, each is accepted, and they lead to the
-/// history itself.
+/// If all calls of such a history are at seat 0, its text is read as exactly these calls, each is accepted, and they
+/// lead to the same history.
 pub fn seat_zero_is_preserved()
     ensures law { SeatZeroIsPreserved }
 {}

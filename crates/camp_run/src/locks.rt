@@ -16,9 +16,9 @@ use std::io::{Read, Write};
 use std::sync::Wait;
 use std::thread::Threads;
 
-/// Reads a whole script and executes its sections on a new repository with these limits, under a lock, section
-/// k at seat k: the opening first, and then each client in a thread of its own. Writes the answers, and the history if it is
-/// wanted, after the last thread was joined.
+/// Reads a whole script and executes its sections on a new repository with these limits, under a lock, section k at
+/// seat k: the opening first, and then each client in a thread of its own. Writes the answers and, if it is wanted, the
+/// history, after the last thread was joined.
 pub fn run_locked<T: Threads + Wait + Sync, R: Read, W: Write>(
     rt: &T,
     alloc: Global,

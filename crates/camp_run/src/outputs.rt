@@ -14,7 +14,7 @@ use camp_script::{output_text, write_text};
 use std::alloc::{AllocError, Global};
 use std::io::Write;
 
-/// Renders the answers to sections, followed by a history if it is wanted.
+/// Renders the answers to sections and, if it is wanted, the history.
 pub(crate) fn text_of(
     alloc: Global,
     answers: &[Answers<State>],
@@ -29,7 +29,7 @@ pub(crate) fn text_of(
     output_text(alloc, answers, history)
 }
 
-/// Writes a text. The only fault is that the writer failed.
+/// Writes a text. The only error is that of the writer.
 pub(crate) fn write_output<W: Write>(writer: &mut W, text: &[u8]) -> Result<(), RunFault>
     ensures { MatchResult result
         (λ _. Appends (W.contents writer.old) (W.contents writer.new) text.now)

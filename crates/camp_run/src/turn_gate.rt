@@ -1,4 +1,4 @@
-//! How clients over a head take turns.
+//! A gate at which clients over a head take turns.
 ghost use Rattle.std.specs.Prelude.{◌<◌};
 
 use camp_clients::SectionGate;
@@ -8,10 +8,11 @@ use std::sync::Wait;
 use std::sync::atomic::{AtomicU64, Ordering};
 use std::time::Duration;
 
-/// Microseconds that the first client of the queue sleeps between two polls, unless it is woken. The second
-/// sleeps four times as long, the third nine times, and so on.
+/// Microseconds for which the first client of the queue sleeps between two polls, unless it is woken. The second sleeps
+/// four times as long, the third nine times, and so on.
 const PAUSE: u64 = 100;
-/// The number of positions of the queue whose clients sleep longer than those before them.
+/// The number of positions in the queue for which clients sleep longer than those before them; all after them sleep as
+/// long as the last of these.
 const POSITIONS: u64 = 8;
 /// Polls that find the same owner of the turn after which a client sleeps four times as long, until the owner changes.
 const POLLS_BEFORE_LONG_PAUSE: u32 = 4;
@@ -23,13 +24,13 @@ const POLLS_UNTIL_STALLED: u32 = 8;
 const POLLS_UNTIL_GONE: u32 = 2;
 /// The most seats of a head.
 const SEATS: u64 = 64;
-/// The number of phases.
+/// The number of phases of a step.
 const PHASES: u64 = 4;
 
-/// What the owner of the turn does.
+/// The phase of the owner of the turn.
 #[derive(Clone, Copy)]
 enum Phase {
-    /// It is in a query, or has executed all of its calls.
+    /// It executes a query, or has executed all of its calls.
     Idle,
     /// It decides a call.
     Deciding,
@@ -40,7 +41,7 @@ enum Phase {
 }
 
 impl Phase {
-    /// Returns its number, 0 to 3.
+    /// Returns the phase as a number, 0 to 3.
     fn number(self) -> u64 {
         match self {
             Phase::Idle => 0,
@@ -51,7 +52,7 @@ impl Phase {
     }
 }
 
-/// Encodes the step that follows `step`, as one number: the count of steps, the phase, and the seat.
+/// Encodes the step that comes after `step` as one number: the count of steps, the phase, and the seat.
 fn next_step(step: u64, phase: Phase, seat: u32) -> u64 {
     let count = (step / (PHASES * SEATS)).wrapping_add(1);
     let high = count.wrapping_mul(PHASES).wrapping_add(phase.number());
@@ -68,12 +69,12 @@ fn phase_of(step: u64) -> Phase {
     }
 }
 
-/// True if a step is of a seat.
+/// True if a step is one of a seat.
 fn is_step_of(step: u64, seat: u32) -> bool {
     step % SEATS == seat as u64 % SEATS
 }
 
-/// Returns the number of seats between that of a step and another one, in the order of their numbers.
+/// Returns the distance from the seat of a step to another seat, in the order of their numbers.
 fn seats_between(step: u64, seat: u32) -> u64
     ensures { result < 64 }
 {
@@ -89,7 +90,7 @@ fn set_bits_between(bits: u64, step: u64, seat: u32) -> u64 {
     (bits.rotate_right(first) & nearer).count_ones() as u64
 }
 
-/// Returns after how many polls without progress the next client takes the turn.
+/// Returns the number of polls without progress after which the next client takes the turn.
 fn polls_before_taking(step: u64) -> u32 {
     match phase_of(step) {
         Phase::Idle => 0,
@@ -98,14 +99,14 @@ fn polls_before_taking(step: u64) -> u32 {
     }
 }
 
-/// What a waiting client found at its polls.
+/// What a waiting client has found at its polls.
 #[derive(Drop)]
 struct Watch {
     /// The last step, and a bit for each seat that waited.
     found: (u64, u64),
-    /// Polls in sequence that found both unchanged.
+    /// Successive polls that found both unchanged.
     unchanged: u32,
-    /// Polls in sequence that found the turn with the same seat.
+    /// Successive polls that found the turn with the same seat.
     polls: u32,
 }
 
@@ -118,7 +119,7 @@ impl Watch {
         }
     }
 
-    /// Notes the last step and the waiting seats that a poll found.
+    /// Stores the last step and the waiting seats that a poll found.
     fn note_poll(&mut self, step: u64, waiting: u64) {
         let (last, before) = self.found;
         let is_same = step == last && waiting == before;
@@ -136,7 +137,8 @@ impl Watch {
         self.found = (step, waiting);
     }
 
-    /// True if a client with `before` clients before it in the queue may take the turn, since the owner made no progress.
+    /// True if a client with `before` clients before it in the queue may take the turn, since the owner has made no
+    /// progress.
     fn may_take_turn(&self, before: u64) -> bool {
         let step = self.found.0;
         before == 0 && self.unchanged >= polls_before_taking(step)
@@ -156,7 +158,7 @@ impl Watch {
     }
 }
 
-/// Returns the index of a seat's wake count.
+/// Returns the index of the wake count of a seat.
 fn index_of(seat: u64) -> usize
     ensures { result < 64 }
 {
@@ -166,7 +168,7 @@ fn index_of(seat: u64) -> usize
 /// The wake counts on which the clients sleep.
 #[derive(Drop)]
 struct WakeCounts {
-    /// For each seat, how often its client was woken.
+    /// For each seat the number of times that its client was woken.
     counts: [AtomicU64; 64],
 }
 
@@ -177,7 +179,7 @@ impl WakeCounts {
         }
     }
 
-    /// Returns how often the client of a seat was woken.
+    /// Returns the wake count of a seat: how often its client was woken.
     fn count(&self, seat: u64) -> u64 {
         self.counts[index_of(seat)].load(Ordering::SeqCst)
     }
@@ -189,8 +191,8 @@ impl WakeCounts {
         self.counts[index].wake_one();
     }
 
-    /// Sleeps until the client of a seat is woken, or the time is over. Returns at once if the wake count is
-    /// no longer `count`.
+    /// Sleeps until the client of a seat is woken or the time is over. Returns at once if the wake count is not `count`
+    /// any more.
     fn sleep<R: Wait>(&self, rt: &R, seat: u64, count: u64, time: Duration) {
         let low = (count % 4_294_967_296) as u32;
         self.counts[index_of(seat)].park_timeout(rt, low, time);
@@ -199,8 +201,8 @@ impl WakeCounts {
 
 /// A gate at which clients take turns: one executes its calls, and the others that want to publish wait, for a limited
 /// time, in the order of their seats. If all published at once, one would succeed, and the others would have to decide
-/// their calls again. No answer depends on it. A waiting client has published nothing, so nobody waits for it; an owner
-/// that makes no progress loses the turn.
+/// their calls again. No answer depends on the gate. A waiting client has published nothing, so nobody waits for it; an
+/// owner that makes no progress loses the turn.
 #[derive(Drop)]
 pub struct TurnGate<'a, R: Wait> {
     rt: &'a R,
@@ -212,7 +214,7 @@ pub struct TurnGate<'a, R: Wait> {
 }
 
 impl<'a, R: Wait> TurnGate<'a, R> {
-    /// Makes a gate of which nobody has the turn.
+    /// Makes a gate at which nobody has the turn.
     pub fn new(rt: &'a R) -> TurnGate<'a, R> {
         TurnGate {
             rt,
@@ -227,7 +229,7 @@ impl<'a, R: Wait> TurnGate<'a, R> {
         self.all_waiting().count_ones()
     }
 
-    /// Returns how often clients were woken so far: at most two for each section that has ended.
+    /// Returns how often clients were woken so far, which is at most two times for each section that has ended.
     pub fn wakes(&self) -> u64 {
         let mut wakes = 0u64;
         for seat in 0..SEATS {
@@ -244,7 +246,7 @@ impl<'a, R: Wait> TurnGate<'a, R> {
         self.waiting.load(Ordering::SeqCst)
     }
 
-    /// Replaces the last step by the next one, unless the last step is no longer `step`; true if it did.
+    /// Replaces the last step by the next one, if the last step is still `step`; true if it was.
     fn advance(&self, step: u64, phase: Phase, seat: u32) -> bool {
         let next = next_step(step, phase, seat);
         self.step
@@ -252,7 +254,7 @@ impl<'a, R: Wait> TurnGate<'a, R> {
             .is_ok()
     }
 
-    /// Wakes the first of the seats, counted from `from`, whose bits are set.
+    /// Wakes the client of the first of the seats, counted from `from`, whose bits are set.
     fn wake_first(&self, from: u64, bits: u64) {
         if bits != 0 {
             self.wake_counts
@@ -276,9 +278,8 @@ impl<'a, R: Wait> TurnGate<'a, R> {
         self.waiting.fetch_and(!bit, Ordering::SeqCst);
     }
 
-    /// Waits for the turn, for a while at most, and takes it. A client that is woken but is not next
-    /// publishes once without the turn: this shows it the newest calls, so it has few to see when its turn
-    /// comes.
+    /// Waits for the turn, for a limited time, and takes it. A client that is woken but is not next publishes once
+    /// without the turn: this shows it the newest calls, so it has few to see when its turn comes.
     fn wait_for_turn(&self, seat: u32, lost: u32) {
         let first_count = self.wake_counts.count(seat as u64);
         let mut watch = Watch::new();
@@ -307,8 +308,8 @@ impl<'a, R: Wait> Gate for TurnGate<'a, R> {
         }
     }
 
-    /// Waits for the turn, unless the seat has it. After a wait the compare-exchange usually fails, which shows the seat
-    /// the newest call; then it tries again at once.
+    /// Waits for the turn, unless the seat has it. The compare-exchange that follows a wait usually fails, since other
+    /// calls came in between; it shows the seat the newest call, and the seat tries again at once.
     fn exchange(&self, seat: u32, lost: u32) {
         let step = self.last_step();
         if is_step_of(step, seat) && self.advance(step, Phase::Publishing, seat) {
@@ -332,7 +333,8 @@ impl<'a, R: Wait> Gate for TurnGate<'a, R> {
 
 impl<'a, R: Wait> SectionGate for TurnGate<'a, R> {
     /// Waits for the turn before a section that begins with a call that writes, unless the seat has the turn. Without
-    /// the turn the call would usually be decided in vain, and slow the owner down while threads are still being started.
+    /// the turn the call would usually lose its exchange, and slow the owner down while threads are still being
+    /// started.
     fn begin(&self, seat: u32, writes: bool) {
         if writes && !is_step_of(self.last_step(), seat) {
             self.wait_in_queue(seat, 0);

@@ -22,7 +22,7 @@ change_head (Add path) = codes "add" ∷ path ∷ []
 change_head (Remove path) = codes "remove" ∷ path ∷ []
 change_head (Hunk hunk) = codes "edit" ∷ hunk.path ∷ decimal hunk.line ∷ []
 
--- the body of a change, as lines after its head; empty if it has none
+-- the lines of a change after its first line; empty if it has none
 abbrev pub change_body : Primitive → List ℕ
 change_body (Add path) = []
 change_body (Remove path) = []
@@ -41,7 +41,7 @@ record_text branch name changes =
     line_text (codes "record" ∷ branch ∷ name ∷ codes "group" ∷ []) ++ flat_map canonical_change changes
     ++ line_text (codes "done" ∷ [])
 
--- a call in a script: a record with its bodies; any other call on one line, as in a history
+-- a call in a script: a record with its bodies; any other call on one line, in the form of a history
 abbrev pub call_text : Call → List ℕ
 call_text (call.Record branch name changes) = record_text branch name changes
 call_text other = line_text (call_words other)
@@ -54,7 +54,7 @@ section_text calls = flat_map call_text calls
 abbrev pub client_text : List Call → List ℕ
 client_text calls = line_text (codes "client" ∷ []) ++ section_text calls
 
--- the canonical text of sections: the opening, and those of clients
+-- the canonical text of sections: the opening, followed by those of the clients
 abbrev pub script_text : List (List Call) → List ℕ
 script_text [] = []
 script_text (opening ∷ clients) = section_text opening ++ flat_map client_text clients
@@ -78,7 +78,7 @@ abbrev pub IsListed : Option (List (List ℕ)) → Type 0
 IsListed None = Unit {0}
 IsListed (Some names) = (1 ≤ length names) × AreNames names
 
--- a call that a script can contain: its names are names, its changes can be represented, and its lists have a name
+-- a call that a script can contain: its names are names, its changes can be represented, and no list of names is empty
 abbrev pub IsScriptCall : Call → Type 0
 IsScriptCall (call.Branch new from) = IsTrue (is_name new) × IsTrue (is_name from)
 IsScriptCall (call.Record branch name changes) =
@@ -89,15 +89,15 @@ IsScriptCall (call.Tree branch) = IsTrue (is_name branch)
 IsScriptCall (call.Conflicts branch) = IsTrue (is_name branch)
 IsScriptCall (call.Names branch) = IsTrue (is_name branch)
 
--- sections of a script: calls that it can contain, within the limits
+-- sections that a script can contain: their calls can be in a script, and they are within the limits
 pub record CanBeWritten (sections : List (List Call)) : Type 0 where
   pub calls : AllByRecursion (AllByRecursion IsScriptCall) sections
   pub limits : AreWithinLimits sections
 
--- reading the canonical text of such sections gives exactly these
+-- reading the canonical text of such sections gives the sections back
 abbrev pub ReadsBack : Type 0
 ReadsBack = (sections : List (List Call)) → CanBeWritten sections → script_of (script_text sections) ≡ Ok sections
 
--- whatever is read is such sections
+-- what reading gives is always such sections
 abbrev pub ReadIsWritable : Type 0
 ReadIsWritable = (bytes : List ℕ) (sections : List (List Call)) → script_of bytes ≡ Ok sections → CanBeWritten sections

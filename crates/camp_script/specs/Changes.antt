@@ -45,13 +45,13 @@ ended_edit line edit =
     else (if nat_lt greatest_reach (edit.line + length edit.old + length edit.new) then fault_at line BadNumber
     else Ok edit)
 
--- an edit after a line of its body
+-- an edit after one more line of its body
 abbrev pub after_body_line : Edit → NumberedLine → Result Edit LineFault
 after_body_line edit line =
     if ends_body line then ended_edit line.number edit else grown line.number edit line.bytes
 
--- the change of an edit of a path, at an index of the changes: its body, line by line, ending with `end`; without
--- `end`, the fault is at the line of the script that begins the edit
+-- the change of an edit, parsed from its body, which ends with `end`; `line` is where the edit begins in the script,
+-- and a missing `end` is a fault there
 abbrev pub parsed_edit : ℕ → List ℕ → ℕ → List NumberedLine → Result Primitive LineFault
 parsed_edit line path place body =
     in_turn after_body_line (record { path = path; line = place; old = []; new = [] }) body >>= λ edit.
@@ -84,13 +84,13 @@ change_of line count word words =
     else (if bytes_eq word (codes "done") then (no_words line words >>= λ none. Ok EndGroup)
     else fault_at line BadGroup)))
 
--- the meaning of a numbered line of a group; a line that is skipped elsewhere is skipped here too
+-- the meaning of a line of a group, given its line number; blank lines and comments mean nothing
 abbrev pub group_line_of : ℕ → ℕ → List (List ℕ) → Result GroupLine LineFault
 group_line_of line count [] = Ok NoChange
 group_line_of line count (word ∷ words) =
     if is_skipped (word ∷ words) then Ok NoChange else change_of line count word words
 
--- the changes of a group after an entry with this meaning; at its end the group must have a change
+-- the changes of a group after an entry with this meaning; `done` is a fault if the group has no change
 abbrev pub with_change : List Primitive → Entry → GroupLine → Result (List Primitive) LineFault
 with_change changes entry NoChange = Ok changes
 with_change changes entry (WholeChange change) = Ok (changes ++ change ∷ [])
@@ -104,8 +104,8 @@ abbrev pub after_entry : List Primitive → Entry → Result (List Primitive) Li
 after_entry changes entry =
     group_line_of entry.head.number (length changes) (entry_words entry) >>= with_change changes entry
 
--- the changes of a group: those of its entries, ending with `done`; without `done`, the fault is at the line of the
--- script that begins the group
+-- the changes of a group, parsed from its entries, which end with `done`; a missing `done` is a fault at the line where
+-- the group begins
 abbrev pub group_of : ℕ → List Entry → Result (List Primitive) LineFault
 group_of line entries =
     in_turn after_entry [] entries >>= λ changes.

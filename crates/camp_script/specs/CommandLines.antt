@@ -24,25 +24,25 @@ entry_lines entry = entry.head ∷ entry.rest
 abbrev pub group_lines : List NumberedLine → List NumberedLine
 group_lines lines = flat_map entry_lines (up_to ends_group (line_entries lines))
 
--- what belongs to a first line, by what it asks for: a body if an edit begins; a group if one begins; else nothing,
--- so a line with a fault is a command of its own
+-- the kind of lines that follow a first line: the body of an edit, the lines of a group, or none. A first line with a
+-- fault has none.
 abbrev pub taken_by : Result Command LineFault → List NumberedLine → List NumberedLine
 taken_by (Ok (BeginEdit branch name path place)) lines = up_to ends_body lines
 taken_by (Ok (BeginGroup branch name)) lines = group_lines lines
 taken_by other lines = []
 
--- the following lines that belong to a first line
+-- of the lines after a first line, those that belong to its command
 abbrev pub taken : List ℕ → List (List ℕ) → List (List ℕ)
 taken first lines = map (λ line. line.bytes) (taken_by (command_of 1 (words_of first)) (numbered 2 lines))
 
--- another line belongs to the command
+-- whether the next line belongs to the command
 abbrev pub wants : Wanted → Bool
 wants Nothing = false
 wants Body = true
 wants Group = true
 wants GroupBody = true
 
--- what belongs to the command after one more line: a body ends with `end`, and a group with `done`
+-- the kind of lines that follow after one more line: a body ends with `end`, and a group with `done`
 abbrev pub wanted_after : Wanted → List ℕ → Wanted
 wanted_after Nothing line = Nothing
 wanted_after Body line = if bytes_eq line (codes "end") then Nothing else Body
@@ -51,19 +51,19 @@ wanted_after Group line =
     if begins_edit (words_of line) then GroupBody
     else (if begins_with (codes "done") (words_of line) then Nothing else Group)
 
--- those of these lines that belong to the command
+-- of these lines, those that belong to the command
 abbrev pub wanted_lines : Wanted → List (List ℕ) → List (List ℕ)
 wanted_lines wanted [] = []
 wanted_lines wanted (line ∷ lines) = if wants wanted then line ∷ wanted_lines (wanted_after wanted line) lines else []
 
--- the result of a command: if no line had a fault, the script that the reader gives; else the fault of the line that
--- had one. Says nothing of the script if memory ran out.
+-- the result of a command: the script that the reader gives or, if a line has a fault, that fault. After out of memory
+-- nothing is said of the script.
 abbrev pub GivesScript : Option ScriptFault → ℕ → Progress → List (List ℕ) → Result (List (List Call)) LineFault → Type 0
 GivesScript None number reading others script = script ≡ read_from (number + 1) reading others
 GivesScript (Some fault) number reading others script = IsFaultOf fault script
 
--- a command has read its first line and these of the lines after it: the lines that belong to it are these and the
--- wanted ones of the others, and reading on gives the script of all
+-- the invariant of a command that has read its first line and the lines `rest`: whatever lines `others` come next, its
+-- lines are `rest` and those of `others` that it wants, and reading these gives the script of all its lines
 pub record HasRead (command : CommandLines) (first : List ℕ) (rest : List (List ℕ)) : Type 0 where
   pub takes : (others : List (List ℕ)) → taken first (rest ++ others) ≡ rest ++ wanted_lines command.wanted others
   pub reads : (others : List (List ℕ)) → GivesScript command.fault command.number command.reading others (script_of_lines (first ∷ rest ++ others))

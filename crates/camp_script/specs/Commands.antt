@@ -82,7 +82,7 @@ obliterate_line line others = fault_at line WrongNumberOfWords
 abbrev pub branch_at : ℕ → List (List ℕ) → Result (List ℕ) LineFault
 branch_at line words = one_word line words >>= name_at line
 
--- a question: its first word, and those after it
+-- a question, by its first word and the others
 abbrev pub question : ℕ → List ℕ → List (List ℕ) → Result Command LineFault
 question line word words =
     if bytes_eq word (codes "tree") then (branch_at line words >>= λ branch. Ok (Ask (call.Tree branch)))
@@ -91,7 +91,7 @@ question line word words =
     else (if bytes_eq word (codes "names") then (branch_at line words >>= λ branch. Ok (Ask (call.Names branch)))
     else fault_at line UnknownCommand))
 
--- a command without a list of names: its first word, and those after it; nothing follows `client`
+-- a command without a list of names, by its first word and the others; nothing follows `client`
 abbrev pub short_command : ℕ → List ℕ → List (List ℕ) → Result Command LineFault
 short_command line word words =
     if bytes_eq word (codes "branch") then branch_line line words
@@ -99,14 +99,14 @@ short_command line word words =
     else (if bytes_eq word (codes "client") then (no_words line words >>= λ none. Ok BeginSection)
     else question line word words))
 
--- a command: its first word, and those after it
+-- a command, by its first word and the others
 abbrev pub command : ℕ → List ℕ → List (List ℕ) → Result Command LineFault
 command line word words =
     if bytes_eq word (codes "pull") then pull_line line words
     else (if bytes_eq word (codes "obliterate") then obliterate_line line words
     else short_command line word words)
 
--- the meaning of a numbered line; a line that is skipped has none
+-- the meaning of the words of a line; blank lines and comments have none
 abbrev pub command_of : ℕ → List (List ℕ) → Result Command LineFault
 command_of line [] = Ok Nothing
 command_of line (word ∷ words) = if is_skipped (word ∷ words) then Ok Nothing else command line word words

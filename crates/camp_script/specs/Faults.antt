@@ -41,6 +41,6 @@ abbrev pub call_fault_words : CallFault → List ℕ
 call_fault_words call.NoNames = codes "a list without a name"
 call_fault_words call.Memory = codes "out of memory"
 
--- the fault of a kind at a line
+-- a fault of this kind at this line
 abbrev pub fault_at : {A : Type 0} → ℕ → FaultKind → Result A LineFault
 fault_at line kind = Err (record { line = line; kind = kind })

@@ -19,7 +19,7 @@ ListsNames (call.Tree branch) = Unit {0}
 ListsNames (call.Conflicts branch) = Unit {0}
 ListsNames (call.Names branch) = Unit {0}
 
--- a script can contain the call, unless it has an empty list of names
+-- a call can be in a script unless it has an empty list of names
 abbrev pub CanStand : Call → Type 0
 CanStand call = ListsNames call → IsScriptCall call
 

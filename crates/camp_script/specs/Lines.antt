@@ -5,7 +5,7 @@ use Rattle.std.specs.List.{slice_split}
 use Rattle.camp_base.specs.Signs.{tab, newline, space}
 use Rattle.camp_script.specs.Signs.{number_sign}
 
--- pieces without the last one if that is empty
+-- pieces, without the last one if it is empty
 abbrev pub without_empty_last : List (List ℕ) → List (List ℕ)
 without_empty_last [] = []
 without_empty_last ([] ∷ []) = []

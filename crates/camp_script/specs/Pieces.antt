@@ -1,6 +1,6 @@
--- Groups lines into edits, groups and sections, by their first words alone: a line with a fault is grouped as any
--- other. A script is read no further than its first fault; in a conversation the lines after a fault still say where
--- its command ends.
+-- Groups lines into edits, groups and sections, by their first words alone: a line with a fault is grouped like any
+-- other. A script is read only up to its first fault; in a conversation the lines after a fault still decide where its
+-- command ends.
 --
 -- An example, a group of one edit followed by a question. These six lines are four entries, and those are two items:
 --     1  record main all group     entry 1               item 1, which begins a group
@@ -18,23 +18,23 @@ pub record NumberedLine : Type 0 where
   pub number : ℕ
   pub bytes : List ℕ
 
--- lines, the first of them of a number
+-- lines with their numbers, which begin at `number`
 abbrev pub numbered : ℕ → List (List ℕ) → List NumberedLine
 numbered number [] = []
 numbered number (bytes ∷ lines) = record { number = number; bytes = bytes } ∷ numbered (number + 1) lines
 
--- an element of a list, and the following ones that belong to it
+-- an element of a list, and those after it that belong to it
 pub record Piece (A : Type 0) : Type 0 where
   pub head : A
   pub rest : List A
 
--- the elements up to and including the first that closes; all if none closes
+-- the elements up to the first that closes, which is included; all of them if none closes
 abbrev pub up_to : {A : Type 0} → (A → Bool) → List A → List A
 up_to closes [] = []
 up_to closes (first ∷ others) = first ∷ (if closes first then [] else up_to closes others)
 
--- a list in pieces: an element that opens a piece is followed by its elements, up to the first that closes it; any
--- other is a piece of its own. If a piece is open when the list begins, its elements are skipped.
+-- a list cut into pieces: an element that opens a piece is followed by the others of its piece, up to the first that
+-- closes it; any other element is a piece of its own
 abbrev pub pieces : {A : Type 0} → (A → Bool) → (A → Bool) → Bool → List A → List (Piece A)
 pieces opens closes is_open [] = []
 pieces opens closes true (first ∷ others) = pieces opens closes (not (closes first)) others
@@ -59,7 +59,7 @@ begins_edit words = begins_with (codes "edit") words || begins_record (codes "ed
 abbrev pub begins_group : List (List ℕ) → Bool
 begins_group words = begins_record (codes "group") words
 
--- the words on a line
+-- the words of a line
 abbrev pub words_on : NumberedLine → List (List ℕ)
 words_on line = words_of line.bytes
 
@@ -75,7 +75,7 @@ Entry = Piece NumberedLine
 abbrev pub line_entries : List NumberedLine → List Entry
 line_entries lines = pieces (λ line. begins_edit (words_on line)) ends_body false lines
 
--- the words of the line of an entry
+-- the words of the first line of an entry
 abbrev pub entry_words : Entry → List (List ℕ)
 entry_words entry = words_on entry.head
 
@@ -87,11 +87,11 @@ ends_group entry = begins_with (codes "done") (entry_words entry)
 abbrev pub Item : Type 0
 Item = Piece Entry
 
--- the items of entries
+-- the items that entries make
 abbrev pub items_of : List Entry → List Item
 items_of entries = pieces (λ entry. begins_group (entry_words entry)) ends_group false entries
 
--- the line of an item
+-- the first line of an item
 abbrev pub item_line : Item → NumberedLine
 item_line item = item.head.head
 
@@ -104,7 +104,7 @@ abbrev pub first_section : List Item → List Item
 first_section [] = []
 first_section (item ∷ others) = if is_client item then [] else item ∷ first_section others
 
--- each line of a client, with the items after it up to the next
+-- the sections of clients: each line `client`, with the items after it up to the next one
 abbrev pub clients_of : List Item → List (Piece Item)
 clients_of [] = []
 clients_of (item ∷ others) =

@@ -15,15 +15,15 @@ use Rattle.camp_base.specs.Results.{◌>>=◌}
 use Rattle.camp_script.specs.declared.faults.FaultKind.TheVariants.{TooManyClients, TooManyCommands}
 use Rattle.camp_script.specs.declared.faults.LineFault.{LineFault}
 
--- a section has its most writing calls
+-- a section has as many writing calls as it may have
 abbrev pub is_full : List Call → Bool
 is_full calls = nat_le most_writing_calls (count_by is_writing calls)
 
--- the fault at a line whose record would exceed the section's writing calls, if it is full
+-- a fault at this line if the section is full; it is checked before the record at that line is parsed
 abbrev pub room_at : ℕ → List Call → Result (Unit {0}) LineFault
 room_at line calls = if is_full calls then fault_at line TooManyCommands else Ok tt
 
--- the meaning of the line of an item
+-- the meaning of the first line of an item
 abbrev pub command_of_item : Item → Result Command LineFault
 command_of_item item = command_of (item_line item).number (words_on (item_line item))
 
@@ -46,7 +46,7 @@ with_asked calls item BeginSection = Ok calls
 abbrev pub after_item : List Call → Item → Result (List Call) LineFault
 after_item calls item = command_of_item item >>= with_asked calls item
 
--- the sections with that of a client: a script has 64 at most
+-- the sections with one more client; a fault if the script has 64
 abbrev pub after_client : List (List Call) → Piece Item → Result (List (List Call)) LineFault
 after_client sections client =
     command_of_item client.head >>= λ begins.

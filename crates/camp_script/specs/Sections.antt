@@ -4,19 +4,20 @@ use Rattle.std.specs.List.{AllByRecursion}
 use Rattle.camp_call.specs.Calls.{is_writing}
 use Rattle.camp_call.specs.declared.calls.Call.{Call}
 
--- clients of a script
+-- the most clients of a script
 abbrev pub most_clients : ℕ
 most_clients = 63
 
--- sections of a script: the opening, and one for each client
+-- the most sections of a script: the opening, and one for each client
 abbrev pub most_sections : ℕ
 most_sections = 64
 
--- calls of a section that write
+-- the most writing calls of a section
 abbrev pub most_writing_calls : ℕ
 most_writing_calls = 65_536
 
--- a script has its opening and the sections of its clients, and none has more writing calls than it may
+-- a script is within the limits: it has an opening and at most 64 sections of clients, and no section has too many
+-- writing calls
 pub record AreWithinLimits (sections : List (List Call)) : Type 0 where
   pub has_opening : 1 ≤ length sections
   pub sections_within : length sections ≤ most_sections

@@ -15,7 +15,7 @@ use Rattle.camp_call.specs.declared.replies.Reply.{Reply}
 use Rattle.camp_call.specs.declared.replies.Reply.TheVariants.{Done, Refused, Tree, Conflicts, Names}
 use Rattle.camp_script.specs.Signs.{equals_sign}
 
--- words on a line: one space between them, and a line feed at the end
+-- a line of words: one space between them, and a line feed at the end
 abbrev pub line_text : List (List ℕ) → List ℕ
 line_text words = join_with_byte space words ++ newline ∷ []
 
@@ -45,7 +45,7 @@ file_text file = line_text (codes "file" ∷ file.0 ∷ decimal (length file.1) 
 abbrev pub tree_text : Files → List ℕ
 tree_text tree = line_text (codes "tree" ∷ decimal (len tree) ∷ []) ++ flat_map file_text (entries tree)
 
--- two patches in conflict
+-- the line of two patches in conflict
 abbrev pub pair_text : List ℕ × List ℕ → List ℕ
 pair_text pair = line_text (pair.0 ∷ pair.1 ∷ [])
 
@@ -53,7 +53,7 @@ pair_text pair = line_text (pair.0 ∷ pair.1 ∷ [])
 abbrev pub conflicts_text : List (List ℕ × List ℕ) → List ℕ
 conflicts_text pairs = line_text (codes "conflicts" ∷ decimal (length pairs) ∷ []) ++ flat_map pair_text pairs
 
--- a name on a line
+-- the line of a name
 abbrev pub name_text : List ℕ → List ℕ
 name_text name = line_text (name ∷ [])
 
@@ -61,7 +61,7 @@ name_text name = line_text (name ∷ [])
 abbrev pub names_text : List (List ℕ) → List ℕ
 names_text names = line_text (codes "names" ∷ decimal (length names) ∷ []) ++ flat_map name_text names
 
--- a reply
+-- the text of a reply
 abbrev pub reply_text : Reply → List ℕ
 reply_text (Done at) = line_text (codes "ok" ∷ decimal at ∷ [])
 reply_text (Refused refusal) = line_text (codes "refused" ∷ refusal_words refusal)

@@ -6,13 +6,12 @@ use Rattle.camp_script.specs.Lines.{lines_of, is_skipped}
 use Rattle.camp_script.specs.Pieces.{NumberedLine, numbered, words_on}
 use Rattle.camp_script.specs.declared.faults.LineFault.{LineFault}
 
--- the meaning of the first of these lines that is not skipped, or its fault; nothing if all are skipped
+-- the meaning of the first line that is neither blank nor a comment, or its fault; nothing if there is no such line
 abbrev pub first_command : List NumberedLine → Result Command LineFault
 first_command [] = Ok Nothing
 first_command (line ∷ lines) =
     if is_skipped (words_on line) then first_command lines else command_of line.number (words_on line)
 
--- reading a script may run out of memory only if its first line that is not skipped has no fault, or all lines are
--- skipped
+-- reading a script may run out of memory, unless its first line that is neither blank nor a comment has a fault
 abbrev pub ScriptMayWant : List ℕ → Type 0
 ScriptMayWant bytes = HasNoFault (first_command (numbered 1 (lines_of bytes)))

@@ -1,4 +1,4 @@
--- The words of a line as names, paths and numbers, or the fault of the first that is not valid.
+-- Parsing the words of a line as names, paths and numbers; the first word that is not valid is the fault.
 use Rattle.std.specs.Prelude.{ℕ, ◌+◌, ◌*◌, ◌-◌, Bool, ◌&&◌, if◌then◌else◌}
 use Rattle.std.specs.Prelude.{List, [], ◌∷◌, length, fold, Option, None, Some, Result, Ok, Err}
 use Rattle.std.specs.List.{list_all}
@@ -10,44 +10,44 @@ use Rattle.camp_script.specs.declared.faults.FaultKind.{FaultKind}
 use Rattle.camp_script.specs.declared.faults.FaultKind.TheVariants.{WrongNumberOfWords, BadName, BadPath, BadNumber}
 use Rattle.camp_script.specs.declared.faults.LineFault.{LineFault}
 
--- a step for each element, from the first to the last; the first fault stays
+-- applies a step to each element in order, up to the first fault
 abbrev pub in_turn : {A B E : Type 0} → (A → B → Result A E) → A → List B → Result A E
 in_turn step so_far [] = Ok so_far
 in_turn step so_far (first ∷ others) = step so_far first >>= λ next. in_turn step next others
 
--- no words, if none are allowed
+-- a fault if there is any word
 abbrev pub no_words : ℕ → List (List ℕ) → Result (Unit {0}) LineFault
 no_words line [] = Ok tt
 no_words line others = fault_at line WrongNumberOfWords
 
--- exactly one word
+-- the only word; a fault if there is another number of words
 abbrev pub one_word : ℕ → List (List ℕ) → Result (List ℕ) LineFault
 one_word line (word ∷ []) = Ok word
 one_word line others = fault_at line WrongNumberOfWords
 
--- exactly two words
+-- the only two words; a fault if there is another number of words
 abbrev pub two_words : ℕ → List (List ℕ) → Result (List ℕ × List ℕ) LineFault
 two_words line (first ∷ second ∷ []) = Ok (first, second)
 two_words line others = fault_at line WrongNumberOfWords
 
--- three words, and those after them
+-- the first three words and the others; a fault if there are fewer
 abbrev pub three_words : ℕ → List (List ℕ) → Result (List ℕ × List ℕ × List ℕ × List (List ℕ)) LineFault
 three_words line (first ∷ second ∷ third ∷ words) = Ok (first, second, third, words)
 three_words line others = fault_at line WrongNumberOfWords
 
--- a word of a line that passes a test, or the fault
+-- a word if it passes a test, else a fault of this kind
 abbrev pub word_that : (List ℕ → Bool) → FaultKind → ℕ → List ℕ → Result (List ℕ) LineFault
 word_that test kind line word = if test word then Ok word else fault_at line kind
 
--- a word that is a name
+-- a word as a name, or a fault
 abbrev pub name_at : ℕ → List ℕ → Result (List ℕ) LineFault
 name_at = word_that is_name BadName
 
--- a word that is a path
+-- a word as a path, or a fault
 abbrev pub path_at : ℕ → List ℕ → Result (List ℕ) LineFault
 path_at = word_that is_path BadPath
 
--- words that are names, from left to right
+-- words as names, or the fault of the first that is none
 abbrev pub names_at : ℕ → List (List ℕ) → Result (List (List ℕ)) LineFault
 names_at line [] = Ok []
 names_at line (word ∷ words) = name_at line word >>= λ name. names_at line words >>= λ names. Ok (name ∷ names)
@@ -70,6 +70,6 @@ is_line_number word =
     is_between 1 10 (length word)
     && (list_all is_digit word && is_between 1 last_line_number (value_of word))
 
--- a word that is the number of a line of a file
+-- a word as the number of a line of a file, or a fault
 abbrev pub number_at : ℕ → List ℕ → Result ℕ LineFault
 number_at line word = if is_line_number word then Ok (value_of word) else fault_at line BadNumber

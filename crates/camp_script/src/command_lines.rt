@@ -39,15 +39,15 @@ impl CommandLines {
         })
     }
 
-    /// True if one more line belongs to it.
+    /// True if the next line belongs to the command.
     pub fn wants_more(&self) -> bool
         ensures exact { result ≡ wants self.now.wanted }
     {
         !matches!(self.wanted, Wanted::Nothing)
     }
 
-    /// Reads the next line. If memory runs out, or there is no number for the line, the command has the fault
-    /// out of memory.
+    /// Reads the next line of the command. If memory runs out, or the line number is out of range, the command's fault
+    /// is out of memory.
     pub fn read_line(&mut self, line: &[u8])
         requires { wants self.old.wanted ≡ true }
         ensures next { (first : List ℕ) (rest : List (List ℕ)) → HasRead self.old first rest → HasRead self.new first (rest ++ line.now ∷ []) }
@@ -66,7 +66,7 @@ impl CommandLines {
         }
     }
 
-    /// Returns the script that its lines represent.
+    /// Returns the script that the lines of the command represent.
     pub fn finish(self) -> Result<Script, ScriptFault>
         ensures given { (first : List ℕ) (rest : List (List ℕ)) → HasRead self first rest → Gives result (script_of_lines (first ∷ rest)) }
     {

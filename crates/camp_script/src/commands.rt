@@ -53,8 +53,8 @@ impl Reading {
         self.read_command(number, word, words)
     }
 
-    // Parses a command from its first word and the others. A function of its own, so that its fault is proved
-    // for all lines at once.
+    // Parses a command from its first word and the others. It is a function of its own so that its fault is proved once
+    // for all lines.
     fn read_command(
         &mut self,
         number: u64,
@@ -67,7 +67,7 @@ impl Reading {
         self.take_command(number, asked)
     }
 
-    // Executes the meaning of a line.
+    // Updates the progress of the reader by a parsed command.
     fn take_command(&mut self, number: u64, asked: ParsedLine) -> Result<(), ScriptFault>
         requires { EditLineIsCounted asked }
         ensures { Advances result self.new (after_command number self.old (command_parsed asked)) }
@@ -307,7 +307,7 @@ impl Reading {
     }
 }
 
-// Returns the one word of a question.
+// Parses the branch of a question, its only word.
 fn branch_at(number: u64, words: &[&[u8]]) -> Result<Name, ScriptFault>
     ensures given { GivesFaultFirst result (branch_at number (map (λ word. word.now) words.now)) }
     ensures told { IfErr result (λ fault. fault ≢ ScriptFault.Memory) }
@@ -315,7 +315,7 @@ fn branch_at(number: u64, words: &[&[u8]]) -> Result<Name, ScriptFault>
     name_at(number, one_word(number, words)?)
 }
 
-// Makes the changes of a patch of one change.
+// Makes the changes of a record from a single change.
 fn one_change(alloc: Global, change: Primitive) -> Result<Changes, AllocError>
     ensures { IfOk result (λ changes. changes ≡ change ∷ []) }
 {

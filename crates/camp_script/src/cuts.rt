@@ -1,4 +1,4 @@
-//! The words by which lines are grouped into edits and groups. Faults do not matter here.
+//! The words by which lines are grouped into edits and groups. A line with a fault is grouped like any other.
 ghost use Rattle.std.specs.Prelude.{◌≡◌};
 ghost use Rattle.camp_script.specs.CommandLines.{wanted_after};
 ghost use Rattle.camp_script.specs.Lines.{words_of};
@@ -42,20 +42,20 @@ pub fn begins_edit(line: &[u8]) -> bool
     }
 }
 
-/// The lines that a command still takes.
+/// The kind of lines that may follow in a command.
 #[derive(Clone, Copy, Debug)]
 pub(crate) enum Wanted {
     Nothing,
-    /// Those of a body, up to `end`.
+    /// Lines of a body, up to `end`.
     Body,
-    /// Those of a group, up to `done`.
+    /// Lines of a group, up to `done`.
     Group,
-    /// Those of a body, and then of its group.
+    /// Lines of a body, and then of its group.
     GroupBody,
 }
 
 impl Wanted {
-    /// Returns what it takes after a line.
+    /// Returns the kind of lines that may follow after one more line.
     pub(crate) fn after(self, line: &[u8]) -> Wanted
         ensures { result ≡ wanted_after self line.now }
     {

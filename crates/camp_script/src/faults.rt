@@ -146,7 +146,7 @@ impl From<AllocError> for CallFault {
     }
 }
 
-/// Why a text was not written whole.
+/// Why a text was not completely written.
 #[derive(Clone, Copy, Debug)]
 pub enum WriteFault {
     Memory,

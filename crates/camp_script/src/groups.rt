@@ -94,7 +94,7 @@ impl Reading {
         self.take_group_line(number, begun, told)
     }
 
-    // Executes the meaning of a line of a group.
+    // Updates the progress of the reader by a parsed line of a group.
     fn take_group_line(
         &mut self,
         number: u64,
@@ -127,7 +127,7 @@ impl Reading {
         Ok(())
     }
 
-    // Reads the head of an edit in a group.
+    // Reads the first line of an edit in a group.
     fn open_edit(&mut self, number: u64, mut begun: OpenRecord, path: Path, line: u32)
         requires open { IsOpen self.old.calls begun }
         requires room { length begun.changes.items < most_changes }
@@ -243,7 +243,7 @@ impl Reading {
         self.end_change(number, begun, change)
     }
 
-    // Ends a change at its last line: a group continues, and a single change ends its record.
+    // Ends a change after its last line: a group continues, and a single change ends its record.
     fn end_change(
         &mut self,
         number: u64,
@@ -264,7 +264,7 @@ impl Reading {
     }
 }
 
-// Makes the change of an edit whose `end` is on a line.
+// Makes the change of an edit that ends at this line.
 fn close(alloc: Global, number: u64, edit: OpenEdit) -> Result<Primitive, ScriptFault>
     requires { 1 ≤ edit.line }
     ensures { GivesFaultFirst result (ended_change number (edit_so_far edit)) }
@@ -283,7 +283,7 @@ fn close(alloc: Global, number: u64, edit: OpenEdit) -> Result<Primitive, Script
     Ok(change.into_shared(alloc)?)
 }
 
-// Checks that the body of an edit may end here.
+// Checks that an edit may end: a side has lines, and its hunk is in range.
 fn test_body(number: u64, edit: &OpenEdit) -> Result<(), ScriptFault>
     requires { 1 ≤ edit.now.line }
     ensures passed { IfOk result (λ _. ended_edit number (edit_so_far edit.now) ≡ Ok (edit_so_far edit.now)) }
@@ -300,7 +300,7 @@ fn test_body(number: u64, edit: &OpenEdit) -> Result<(), ScriptFault>
     Ok(())
 }
 
-// True if the line of an edit and the numbers of its old and new lines add up to too much.
+// True if the line of an edit and the numbers of its old and new lines add up to more than 2^30.
 fn reaches_too_far(line: u32, old: usize, new: usize) -> bool
     ensures { result ≡ nat_lt greatest_reach (line + old + new) }
 {

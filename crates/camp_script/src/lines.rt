@@ -7,11 +7,11 @@ ghost use Rattle.camp_script.specs.Lines.{is_blank, without_end, words_of};
 use arrayvec::ArrayVec;
 use std::marker::Model;
 
-/// One more than the most words after the first of a command without a list: with this many words there are
-/// too many.
+/// One more than the most words that may follow the first word of a command without a list: more than these are not
+/// read.
 const SOME_WORDS: usize = 6;
 
-/// The first words of a line after its first. If the capacity is reached, there may be more.
+/// The words of a line after its first; if the capacity is reached, the line may have more.
 pub type FirstWords<'a> = ArrayVec<&'a [u8], SOME_WORDS>;
 
 /// The words of a line, from the first to the last: the bytes between runs of spaces and tabs.
@@ -68,7 +68,7 @@ impl<'a> Iterator for Words<'a> {
     }
 }
 
-/// Returns the first of some words.
+/// Returns up to six words, the first ones of the line.
 pub fn first_words(words: Words<'_>) -> FirstWords<'_>
     ensures exact { map (λ word. word.now) result.items ≡ take 6 words.entry }
 {

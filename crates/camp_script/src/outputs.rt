@@ -12,8 +12,8 @@ use camp_call::{Call, Reply};
 use camp_object::Fault;
 use std::alloc::{AllocError, Global};
 
-/// Renders the answers of an opening and of clients, those of each client after a line with its number,
-/// followed by the history if there is one.
+/// Renders the answers of an opening and of clients; a line with its number comes before the answers of each client.
+/// The history follows, if there is one.
 pub fn output_text(
     alloc: Global,
     sections: &[Vec<Result<Reply, Fault>>],

@@ -1,4 +1,4 @@
-//! The progress of reading a script, and the effect of each line on it.
+//! The progress of a reader of scripts, and how each line changes it.
 ghost use Rattle.std.specs.Prelude.{◌≡◌, false, true, IfErr, IfOk, Ok};
 ghost use Rattle.camp_call.specs.Calls.{is_writing};
 ghost use Rattle.camp_script.specs.Gives.{Advances, GivesFaultFirst, GivesPath};
@@ -20,8 +20,8 @@ use std::alloc::{AllocError, Global};
 use std::marker::Model;
 use std::mem;
 
-/// The progress of reading a script: the sections before this one, the calls of this one, the number of them
-/// that write, and the record that has not ended, if any.
+/// The progress of a reader of scripts: the sections before this one, the calls of this one, how many of them write,
+/// and the open record, if any.
 #[derive(Drop)]
 pub(crate) struct Reading {
     closed: Vec<Vec<Call>>,
@@ -61,8 +61,8 @@ impl Reading {
         *self.calls.allocator()
     }
 
-    /// Reads a word as a path, as `path_at` does. If the call before ends with a change at the same path,
-    /// shares its bytes.
+    /// Parses a word as a path, as `path_at` does. If the call before ends with a change at the same path, shares its
+    /// bytes.
     pub(crate) fn path_again(
         &self,
         number: u64,
@@ -95,7 +95,7 @@ impl Reading {
         }
     }
 
-    /// Returns what belongs to a command after its first line, by the record that this has opened.
+    /// Returns the kind of lines that follow a first line, given the record that it has opened.
     pub(crate) fn wanted(&self) -> Wanted
         ensures { result ≡ wanted_in self.now.open_record }
     {
@@ -123,7 +123,7 @@ impl Reading {
         Ok(Script::of_sections(closed))
     }
 
-    /// Checks that a section can have one more writing call; else this line is one too many.
+    /// Checks that a section may have one more writing call; else returns a fault at this line.
     pub(crate) fn test_room(&self, number: u64) -> Result<(), ScriptFault>
         ensures room { IfOk result (λ _. is_full self.now.calls ≡ false) }
         ensures fault { IfErr result (λ fault. (fault ≡ ScriptFault.Line (record { line = number; kind = kind.TooManyCommands })) × (is_full self.now.calls ≡ true)) }
@@ -175,7 +175,7 @@ impl Reading {
         }
     }
 
-    /// Appends a call that is on a single line.
+    /// Appends a call on a single line.
     pub(crate) fn follow(&mut self, number: u64, call: Call) -> Result<(), ScriptFault>
         ensures { Advances result self.new (after_call number self.old call) }
     {

@@ -1,4 +1,4 @@
-//! A record whose changes follow, as far as it is read.
+//! A record whose changes follow, with those read so far.
 ghost use Rattle.std.specs.Prelude.{◌≡◌};
 ghost use Rattle.camp_script.specs.Inside.Files.{change_at};
 ghost use Rattle.camp_script.specs.Inside.ReadingFields.{open_record_of, IsNotEnded};
@@ -20,7 +20,7 @@ pub(crate) struct OpenRecord {
 }
 
 impl OpenRecord {
-    /// Returns the fault of a script that ends within this record.
+    /// Returns the fault of a script that ends within this record: its edit or its group has not ended.
     pub(crate) fn not_ended(&self) -> ScriptFault
         ensures { IsNotEnded result (open_record_of self.now) }
     {

@@ -57,8 +57,8 @@ impl Script {
     }
 }
 
-/// Reads the script that bytes represent, or returns the first fault of its lines. Only out of memory may
-/// come instead of either, but not if the first line that is not skipped has a fault.
+/// Reads the script that bytes represent, or returns the first fault of its lines. Out of memory is possible, but not
+/// if the first line that is neither blank nor a comment has a fault.
 pub fn read_script(alloc: Global, bytes: &[u8]) -> Result<Script, ScriptFault>
     ensures given { Gives result (script_of bytes.now) }
     ensures memory { IfErr result (λ fault. fault ≡ ScriptFault.Memory → ScriptMayWant bytes.now) }

@@ -25,7 +25,7 @@ pub fn parse_call(alloc: Global, text: &[u8]) -> Result<Option<Call>, AllocError
     Ok(Some(call))
 }
 
-// Returns the last call of a script.
+// Parses a text as a script and returns its last call.
 fn only_call_of(alloc: Global, text: &[u8]) -> Result<Option<Call>, AllocError>
     ensures { IfOk result (λ found. IsOnlyCallOf text.now found) }
 {
@@ -35,7 +35,7 @@ fn only_call_of(alloc: Global, text: &[u8]) -> Result<Option<Call>, AllocError>
     }
 }
 
-// Reads the sections of a script, if the text is one.
+// Reads the sections of a script; `None` if the text is not a script.
 fn sections_of(alloc: Global, text: &[u8]) -> Result<Option<Vec<Vec<Call>>>, AllocError>
     ensures { IfOk result (λ found. MatchOption found
         ((sections : List (List Call)) → script_of text.now ≢ Ok sections)

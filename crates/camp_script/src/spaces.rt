@@ -1,5 +1,5 @@
-//! Appends words, with a space before each, and lines of words to bytes. Here and in the other texts, if
-//! memory runs out, part of the text may have been appended: the caller then drops it.
+//! Appending words to bytes, with a space before each, and lines of words. Here and in the other texts, if memory runs
+//! out, part of the text may have been appended; the caller then drops it.
 ghost use Rattle.std.specs.Prelude.{◌≡◌, ◌∷◌, ◌++◌, [], map, IfOk, OnOk};
 ghost use Rattle.std.specs.Fmt.{decimal};
 ghost use Rattle.camp_script.specs.Canonical.{AreNames};

@@ -17,8 +17,8 @@ use std::alloc::{AllocError, Global};
 use std::io;
 use std::io::{ErrorKind, Write};
 
-/// Writes the text of the answer to a call: a reply, or that the object was busy or the seat full. If memory
-/// runs out nothing is written; if the writer fails, a prefix of the text is.
+/// Writes the text of the answer to a call: a reply, or that the object was busy or the seat full. If memory runs out,
+/// nothing is written; if the writer fails, a prefix of the text is.
 pub fn write_reply<W: Write>(
     alloc: Global,
     answer: &Result<Reply, Fault>,
@@ -30,7 +30,7 @@ pub fn write_reply<W: Write>(
     write_made(writer, answer_text(alloc, answer))
 }
 
-/// Writes a text, unless memory ran out while it was made.
+/// Writes a rendered text; if memory ran out while it was rendered, writes nothing.
 pub(crate) fn write_made<W: Write>(
     writer: &mut W,
     made: Result<Vec<u8>, AllocError>,
@@ -141,7 +141,7 @@ fn append_refusal(text: &mut Vec<u8>, refusal: &Refusal) -> Result<(), AllocErro
     }
 }
 
-/// Appends pairs of names, each on a line. If memory runs out, some of it may have been appended.
+/// Appends pairs of names, each on a line. If memory runs out, some pairs may have been appended.
 pub fn append_pairs(text: &mut Vec<u8>, pairs: &[(Name, Name)]) -> Result<(), AllocError>
     ensures text { OnOk result (text.new.items ≡ text.old.items ++ flat_map pair_text pairs.now) }
 {
@@ -151,7 +151,7 @@ pub fn append_pairs(text: &mut Vec<u8>, pairs: &[(Name, Name)]) -> Result<(), Al
     Ok(())
 }
 
-/// Appends names, each on a line. If memory runs out, some of it may have been appended.
+/// Appends names, each on a line. If memory runs out, some names may have been appended.
 pub fn append_names(text: &mut Vec<u8>, names: &[Name]) -> Result<(), AllocError>
     ensures text { OnOk result (text.new.items ≡ text.old.items ++ flat_map name_text names.now) }
 {
@@ -180,7 +180,7 @@ fn append_file(text: &mut Vec<u8>, path: &Path, lines: &SharedList<Line>) -> Res
     append_lines(text, b'=', lines)
 }
 
-/// Appends lines, each after a sign. If memory runs out, some of it may have been appended.
+/// Appends lines, with a sign before each. If memory runs out, some lines may have been appended.
 pub fn append_lines(
     text: &mut Vec<u8>,
     sign: u8,

@@ -11,13 +11,13 @@ use camp_base::{BaseFault, Name, Path};
 use camp_call::Names;
 use std::alloc::{AllocError, Global};
 
-/// The most digits of the number of a line.
+/// The most digits of the number of a line of a file.
 const MAX_DIGITS: usize = 10;
 
 /// The greatest number of a line of a file.
 const LAST_LINE: u64 = 1_073_741_823;
 
-/// Checks that there is no word.
+/// Returns a fault if there is any word.
 pub fn no_words(number: u64, words: &[&[u8]]) -> Result<(), ScriptFault>
     ensures given { GivesFaultFirst result (no_words number (map (λ word. word.now) words.now)) }
     ensures told { IfErr result (λ fault. fault ≢ ScriptFault.Memory) }
@@ -28,7 +28,7 @@ pub fn no_words(number: u64, words: &[&[u8]]) -> Result<(), ScriptFault>
     }
 }
 
-/// Returns the one word that has to be there.
+/// Returns the only word; a fault if there is another number of words.
 pub fn one_word<'a>(number: u64, words: &[&'a [u8]]) -> Result<&'a [u8], ScriptFault>
     ensures given { IfOk result (λ word. one_word number (map (λ word. word.now) words.now) ≡ Ok word.now) }
     ensures fault { IfErr result (λ fault. IsFaultFirst fault (one_word number (map (λ word. word.now) words.now))) }
@@ -40,7 +40,7 @@ pub fn one_word<'a>(number: u64, words: &[&'a [u8]]) -> Result<&'a [u8], ScriptF
     }
 }
 
-/// Returns the two words that have to be there.
+/// Returns the only two words; a fault if there is another number of words.
 pub fn two_words<'a>(number: u64, words: &[&'a [u8]]) -> Result<(&'a [u8], &'a [u8]), ScriptFault>
     ensures given { IfOk result (λ pair. two_words number (map (λ word. word.now) words.now) ≡ Ok (pair.0.now, pair.1.now)) }
     ensures fault { IfErr result (λ fault. IsFaultFirst fault (two_words number (map (λ word. word.now) words.now))) }
@@ -52,7 +52,7 @@ pub fn two_words<'a>(number: u64, words: &[&'a [u8]]) -> Result<(&'a [u8], &'a [
     }
 }
 
-/// Returns three words, and those after them.
+/// Returns the first three words and the others; a fault if there are fewer.
 pub(crate) fn three_words<'a, 'w>(
     number: u64,
     words: &'w [&'a [u8]],
@@ -102,8 +102,8 @@ pub(crate) fn test_names(number: u64, words: Words<'_>) -> Result<(), ScriptFaul
     Ok(())
 }
 
-/// Parses a path. A word that is none is reported at once; out of memory is reported inside, so that later
-/// tests may come first.
+/// Parses a path. A word that is no path is an error at once; out of memory is returned inside, so that a caller can
+/// report a later fault before it.
 pub fn path_at(
     alloc: Global,
     number: u64,

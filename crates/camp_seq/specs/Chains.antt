@@ -7,7 +7,7 @@ use Rattle.camp_prim.specs.declared.named.Named.{Named}
 abbrev pub CanCommute : Named → Named → Type 0
 CanCommute p q = (q' : Named) × ((p' : Named) × Commute p q q' p')
 
--- p does not commute with the first element of the list after it; so if that list is empty
+-- p does not commute with the first element of the list after it, or that list is empty
 abbrev pub StaysBefore : Named → List Named → Type 0
 StaysBefore p [] = Unit {0}
 StaysBefore p (q ∷ s) = ¬ (CanCommute p q)

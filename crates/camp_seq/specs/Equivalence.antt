@@ -1,9 +1,9 @@
--- Lists of primitives that are equal up to the order of neighbours that commute.
+-- Equivalent lists of primitives: each is reached from the other by commuting neighbours.
 use Rattle.std.specs.Prelude.{◌≡◌, List, ◌∷◌, ◌++◌}
 use Rattle.camp_prim.specs.Commuting.{Commute}
 use Rattle.camp_prim.specs.declared.named.Named.{Named}
 
--- t is s with two neighbours [p] [q] replaced by the [q'] [p'] that a relation gives for them
+-- t is s with two neighbours [p] [q] replaced by [q'] [p'], which a relation gives for them
 pub record CommutesOnce (Turns : Named → Named → Named → Named → Type 0) (s t : List Named) : Type 0 where
   pub before : List Named
   pub p : Named
@@ -15,7 +15,8 @@ pub record CommutesOnce (Turns : Named → Named → Named → Named → Type 0)
   pub turns : Turns p q q' p'
   pub becomes : t ≡ before ++ q' ∷ p' ∷ after
 
--- the least equivalence relation in which lists that differ by one commute of neighbours are equivalent
+-- the least equivalence relation in which two lists are equivalent if one commute of neighbours leads from one to the
+-- other
 infix 4 ◌~◌
 pub data ◌~◌ : List Named → List Named → Type 0 where
   same : {s : List Named} → s ~ s

@@ -14,7 +14,7 @@ use Rattle.camp_seq.specs.Running.{AppliesAll, inverse_all}
 abbrev pub EquivalentRun : Type 0
 EquivalentRun = (s t : List Named) → s ~ t → (old new : Files) → AppliesAll s old new ↔ AppliesAll t old new
 
--- commuting past, moving to the front, splitting and normal ordering give equivalent lists
+-- commuting past, moving to the front, splitting and normal ordering each give an equivalent list
 pub record AreEquivalent : Type 0 where
   pub passed : (p : Named) (s s' : List Named) (p' : Named) → Passes p s s' p' → (p ∷ s) ~ (s' ++ p' ∷ [])
   pub all_passed : (r s s' r' : List Named) → PassesAll r s s' r' → (r ++ s) ~ (s' ++ r')
@@ -43,7 +43,7 @@ InverseOfListLeadsBack = (s : List Named) (old new : Files) → AppliesAll s old
 abbrev pub HasNormalOrder : Type 0
 HasNormalOrder = (s : List Named) → (t : List Named) × Norm s t
 
--- a clean merge closes a square of trees: a then b', and b then a', lead to the same tree
+-- a clean merge closes a square: a then b', and b then a', lead from the same tree to the same tree
 abbrev pub MergeCloses : Type 0
 MergeCloses =
     (a b b' a' : List Named) → CleanMerge a b b' a'
@@ -58,12 +58,11 @@ MergeIsEquivalent = (a b b' a' : List Named) → CleanMerge a b b' a' → (a ++ 
 abbrev pub MergeIsSymmetric : Type 0
 MergeIsSymmetric = (a b b' a' : List Named) → CleanMerge a b b' a' → CleanMerge b a a' b'
 
--- a and b merge cleanly exactly if the inverse of a commutes past b
+-- two lists merge cleanly exactly if the inverse of one commutes past the other
 abbrev pub MergeIsPassing : Type 0
 MergeIsPassing = (a b b' a' : List Named) → CleanMerge a b b' a' ↔ PassesAll (inverse_all a) b b' (inverse_all a')
 
--- each element of the first half of a split has one of the given labels, and no element of the second half
--- has
+-- in a split, each element of the first list has one of the given labels, and no element of the second has
 abbrev pub SplitByLabels : Type 0
 SplitByLabels =
     (labels : List Label) (s f t : List Named) → Splits labels s f t

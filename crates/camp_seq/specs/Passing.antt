@@ -21,7 +21,7 @@ PassesAll [] s s' r' = (s' ≡ s) × (r' ≡ [])
 PassesAll (p ∷ r) s s' r' =
     (t : List Named) × (p' : Named) × (q : List Named) × PassesAll r s t q × Passes p t s' p' × (r' ≡ p' ∷ q)
 
--- s ~ y t: the first element with this label is commuted to the front, where it is y
+-- s ~ y t: the first element with this label is commuted to the front and becomes y
 abbrev pub Fronts : Label → List Named → Named → List Named → Type 0
 Fronts label [] y t = ⊥
 Fronts label (p ∷ s) y t =
@@ -29,7 +29,7 @@ Fronts label (p ∷ s) y t =
     ⊎ ((label_of p ≢ label) × ((found : Named) × (p' : Named) × (u : List Named)
     × Fronts label s found u × Commute p found y p' × (t ≡ p' ∷ u)))
 
--- s ~ f t: the elements with these labels, in their order, are commuted in front of the others
+-- s ~ f t: the elements with these labels are commuted to before the others, in their order
 abbrev pub Parts : List Label → List Named → List Named → List Named → Type 0
 Parts labels [] f t = (f ≡ []) × (t ≡ [])
 Parts labels (p ∷ s) f t =

@@ -12,17 +12,17 @@ use Rattle.camp_seq.specs.NormalOrder.{Norm}
 use Rattle.camp_seq.specs.Running.{inverse_all}
 use Rattle.camp_seq.specs.Shapes.{reach_of}
 
--- a list leads to another by commuting neighbours any number of times, in range or not
+-- a list leads to another by commuting neighbours any number of times; hunks may be out of range on the way
 pub data Reaches : List Named → List Named → Type 0 where
   here : {s : List Named} → Reaches s s
   further : {s t u : List Named} → CommutesOnce CommuteAnywhere s t → Reaches t u → Reaches s u
 
--- a list has headroom: each element of every list that it leads to is in range
+-- a list has headroom: in every list that it leads to, each element is in range
 abbrev pub HasRoom : List Named → Type 0
 HasRoom s = (t : List Named) → Reaches s t → All (λ p. InRange p.prim) t
 
--- the law of three, with headroom: if p and q commute, the six orders of p q r exist in two cases. In the first, r
--- commutes past q and then past p. In the second, p commutes past q and then past r, and q commutes past r.
+-- the law of three, with headroom: if p and q commute, the six orders of p q r exist in two cases: r commutes past q
+-- and then past p, or p commutes past q and then past r, and q past r
 pub record LawOfThree : Type 0 where
   pub from_behind : (p q r q' p' r1 q1 y p1 : Named) → HasRoom (p ∷ q ∷ r ∷ [])
       → Commute p q q' p' → Commute q r r1 q1 → Commute p r1 y p1
@@ -40,7 +40,7 @@ NormalForm = (s t : List Named) → HasRoom s → s ~ t → (u : List Named) →
 abbrev pub ReachGivesRoom : Type 0
 ReachGivesRoom = (s : List Named) → All (λ p. InRange p.prim) s → reach_of s ≤ greatest_reach → HasRoom s
 
--- two lists that begin in the same state have headroom to merge: the inverse of either, followed by the other, has
+-- two lists that begin in the same state have headroom to merge: the inverse of either one, followed by the other, has
 -- headroom
 pub record HasRoomToMerge (s t : List Named) : Type 0 where
   pub forth : HasRoom (inverse_all s ++ t)
@@ -50,8 +50,8 @@ pub record HasRoomToMerge (s t : List Named) : Type 0 where
 abbrev pub MergeCleanly : List Named → List Named → Type 0
 MergeCleanly s t = (t' : List Named) × (s' : List Named) × CleanMerge s t t' s'
 
--- the order of their elements decides neither whether two lists have headroom to merge nor, with headroom, whether
--- they merge cleanly
+-- whether two lists have headroom to merge does not depend on the order of their elements; with headroom, neither does
+-- whether they merge cleanly
 abbrev pub MergesInAnyOrder : Type 0
 MergesInAnyOrder =
     (s u t v : List Named) → HasRoomToMerge s t → s ~ u → t ~ v → HasRoomToMerge u v × (MergeCleanly s t ↔ MergeCleanly u v)

@@ -26,7 +26,7 @@ abbrev pub all_sides : List Named → ℕ
 all_sides [] = 0
 all_sides (p ∷ s) = sides_of p.prim + all_sides s
 
--- the reach of a list: the greatest line of its hunks plus the old and new lines of all; no order that commuting
--- gives has a hunk that reaches further
+-- the reach of a list: the greatest line of its hunks plus the count of all their old and new lines; in no order of the
+-- list does a hunk reach further
 abbrev pub reach_of : List Named → ℕ
 reach_of s = greatest_line s + all_sides s

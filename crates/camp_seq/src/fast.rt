@@ -1,11 +1,11 @@
-//! Faster ways to the results of the definitions. Each applies in some cases, where its result is the defined one.
+//! Faster ways to the results of the definitions. Each applies in some cases only, and gives the defined result there.
 //!
-//! - A list is its own normal order if each element has a label that is not less than any before it, or does not commute
-//! with the one before it. Then no element can be moved in front of one with a greater label.
-//! - A list certainly has headroom if its greatest line and all its old and new lines add up to at most 2^30. It is
+//! - A list is its own normal order if the label of each element is not less than any label before it, or the element
+//! does not commute with the one before it. Then no element can be moved in front of one with a greater label.
+//! - A list has headroom if its greatest line and all its old and new lines add up to at most 2^30. Such a list is
 //! ordered by insertion.
-//! - An element before a list that is its own normal order is commuted to the right past lesser labels. If a quick check
-//! shows that no later element can be moved in front of it there, nothing else is moved.
+//! - An element that comes before a list in normal order is commuted to the right past lesser labels. Nothing else is
+//! moved if a quick check shows that no later element can be moved in front of it.
 //! - A primitive that keeps its line as it passes a list leaves all elements unchanged. If the first element of the
 //! list blocks it, it cannot pass.
 mod insertions;

@@ -10,9 +10,9 @@ use crate::passes::precede;
 use camp_prim::{Label, Named};
 use std::alloc::AllocError;
 
-/// Commutes the first primitive of `s` with this label to the front: `Some((y, t))`, where `y` and then `t`
-/// are equivalent to `s`. `None` if it cannot be moved there, or if no primitive has the label; in the second
-/// case the call never runs out of memory.
+/// Commutes the first primitive of `s` with this label to the front: `Some((y, t))`, where `y` and then `t` are
+/// equivalent to `s`. `None` if it cannot be moved there, or if no primitive has the label. Does not run out of memory
+/// if no primitive has it.
 #[tactic(auto, using(crate::proofs::FrontSteps::first_contained, crate::proofs::FrontSteps::none_fronts))]
 pub fn front(s: &Seq, label: &Label) -> Result<Option<(Named, Seq)>, AllocError>
     ensures exact { IfOk result (FindsPair (Fronts label.now s.now)) }

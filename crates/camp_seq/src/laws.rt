@@ -44,7 +44,7 @@ pub fn clean_merge_is_equivalent()
     ensures law { MergeIsEquivalent }
 {}
 
-/// The clean merge of two lists does not depend on which comes first.
+/// Whether two lists merge cleanly does not depend on which comes first.
 #[tactic(auto, using(crate::proofs::MergeGrid::merge_is_symmetric))]
 pub fn clean_merge_is_symmetric()
     ensures law { MergeIsSymmetric }
@@ -56,14 +56,13 @@ pub fn clean_merge_is_passing_the_inverse()
     ensures law { MergeIsPassing }
 {}
 
-/// Each element of the first half of a split has one of the given labels, and no element of the second half
-/// has.
+/// In a split, each element of the first list has one of the given labels, and no element of the second has.
 pub fn splits_are_by_labels()
     ensures law { SplitByLabels }
 {}
 
-/// If the first two of three primitives commute and the third commutes past both, the six orders of the three
-/// exist and agree, given headroom.
+/// With headroom: if the first two of three primitives commute and the third commutes past both, the six orders of the
+/// three exist and agree.
 #[tactic(auto, using(crate::proofs::LawOfThree::law_of_three))]
 pub fn six_orders_of_three_agree()
     ensures law { LawOfThree }
@@ -75,8 +74,8 @@ pub fn normal_order_is_a_normal_form()
     ensures law { NormalForm }
 {}
 
-/// Whether two lists have headroom to merge does not depend on the order of their elements; nor does, given
-/// headroom, whether they merge cleanly.
+/// Whether two lists have headroom to merge does not depend on the order of their elements; with headroom, neither does
+/// whether they merge cleanly.
 #[tactic(auto, using(crate::proofs::MergeOrders::merging_in_any_order))]
 pub fn lists_merge_in_any_order()
     ensures law { MergesInAnyOrder }

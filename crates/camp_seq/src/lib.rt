@@ -1,4 +1,4 @@
-//! Lists of labelled primitives, up to commuting neighbours.
+//! Lists of labelled primitives, which count as equal up to commuting neighbours.
 #![tactic(auto)]
 
 mod chains;

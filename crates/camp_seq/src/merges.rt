@@ -8,7 +8,7 @@ use crate::Seq;
 use crate::passes::change_places;
 use std::alloc::AllocError;
 
-/// Inverts a list: the inverses of its primitives, in reverse order.
+/// Returns the inverse of a list: the inverses of its primitives, in reverse order.
 pub fn invert_all(s: &Seq) -> Result<Seq, AllocError>
     ensures exact { IfOk result (λ inverse. inverse ≡ inverse_all s.now) }
 {

@@ -36,8 +36,8 @@ pub fn ordered(mut s: Seq) -> Seq
     s
 }
 
-/// Puts a list in normal order, in place; does not allocate. True if the result is known to be its own normal
-/// order: by a quick check, or because the list has headroom.
+/// Puts a list in normal order, in place; does not allocate. True only if the result is its own normal order: a quick
+/// check says so, or the list has headroom.
 pub fn put_in_order(s: &mut Seq) -> bool
     ensures order { Norm s.old s.new }
     ensures own { IsTrue result → Norm s.new s.new }
@@ -45,8 +45,8 @@ pub fn put_in_order(s: &mut Seq) -> bool
     order(&mut s.items)
 }
 
-/// Inserts a primitive before a list and puts the list in normal order, in place. `ordered` says whether the list is
-/// known to be its own normal order; the result says the same of the new list.
+/// Inserts a primitive before a list and puts the list in normal order, in place. `ordered` is true only if the list is
+/// its own normal order; the result says the same of the new list.
 pub fn put_first(a: Named, s: &mut Seq, ordered: bool) -> Result<bool, AllocError>
     requires { IsTrue ordered → Norm s.old s.old }
     ensures order { IfOk result (λ told. Norm (a ∷ s.old) s.new) }
@@ -59,8 +59,8 @@ pub fn put_first(a: Named, s: &mut Seq, ordered: bool) -> Result<bool, AllocErro
     Ok(order(&mut s.items))
 }
 
-/// Does the same for a list that is in normal order: moves the primitive to its position, and orders the elements after
-/// it only if one of them may be moved in front of it.
+/// Inserts a primitive before a list that is in normal order: commutes it to its position, and orders the elements
+/// after it only if one of them may be moved in front of it.
 fn put_before(mut a: Named, s: &mut Seq) -> Result<bool, AllocError>
     requires { Norm s.old s.old }
     ensures order { IfOk result (λ told. Norm (a ∷ s.old) s.new) }
@@ -72,8 +72,8 @@ fn put_before(mut a: Named, s: &mut Seq) -> Result<bool, AllocError>
     Ok(surely_has_room(&s.items))
 }
 
-/// Commutes `a`, which is before `s`, to its position in normal order. Returns the index of that position, and whether
-/// `a` is known to stay in front of the elements after it.
+/// Commutes `a`, which comes before `s`, to its position in normal order. Returns the index of that position, and
+/// whether no element after it can be moved in front of `a`.
 fn find_first_place(a: &mut Named, s: &mut [Named]) -> (usize, bool)
     requires { Norm s.old s.old }
     ensures place { GoesIn s.old a.old result.0 s.new a.new }
@@ -85,7 +85,7 @@ fn find_first_place(a: &mut Named, s: &mut [Named]) -> (usize, bool)
     (at, stays)
 }
 
-/// Puts the elements from index `at` on in normal order, unless they are known to be.
+/// Puts the elements from index `at` on in normal order, unless the caller knows that they are.
 fn settle_from(items: &mut [Named], at: usize, known: bool)
     requires { at ≤ length items.old }
     ensures { OrderedFrom items.old at known items.new }
@@ -96,12 +96,10 @@ fn settle_from(items: &mut [Named], at: usize, known: bool)
     order_anew(&mut items[at..]);
 }
 
-/// Puts a list in normal order, in place; does not allocate. True if the result is known to be its own normal
-/// order.
+/// Puts a list in normal order, in place; does not allocate. True only if the result is its own normal order.
 ///
-/// A list that is its own normal order is unchanged. One with headroom is ordered by insertion: n elements
-/// take at most n * (n - 1) commuting steps. Any other, with hunks near the limit of 2^30, is ordered by
-/// selection.
+/// A list that is its own normal order is unchanged. One with headroom is ordered by insertion: n elements take at most
+/// n * (n - 1) commuting steps. Any other list, with hunks near the limit of 2^30, is ordered by selection.
 pub(crate) fn order(items: &mut [Named]) -> bool
     ensures order { Norm items.old items.new }
     ensures own { IsTrue result → Norm items.new items.new }
@@ -113,7 +111,7 @@ pub(crate) fn order(items: &mut [Named]) -> bool
     surely_has_room(items)
 }
 
-/// `order` for a list that the quick check does not recognise as ordered.
+/// Orders a list that the quick check did not find in normal order.
 fn order_anew(items: &mut [Named])
     ensures { Norm items.old items.new }
 {
@@ -124,10 +122,10 @@ fn order_anew(items: &mut [Named])
     }
 }
 
-/// Selects, for each index, the least label that can be moved to the front of the rest, trying the labels in
-/// ascending order. If the first label is never blocked, n elements take at most n * (n - 1) / 2 commuting
-/// steps. A blocked label is commuted up to the element that blocks it, and back; if at each index nearly all labels
-/// are blocked by a late element, it takes n^3 / 3 steps. A blocked label is tried again at each index, since near the
+/// Selects, for each index, the least label that can be moved to the front of the rest, trying the labels in ascending
+/// order. If the first label is never blocked, n elements take at most n * (n - 1) / 2 commuting steps. A label that is
+/// blocked was commuted up to the element that blocks it, and is commuted back; in the worst case, with nearly all
+/// labels blocked at each index, it takes n^3 / 3 steps. A blocked label is tried again at each index, since near the
 /// limit of a hunk's line other labels may be blocked there.
 fn order_by_selection(items: &mut [Named])
     ensures { Norm items.old items.new }
@@ -153,7 +151,7 @@ fn settle(items: &mut [Named])
     }
 }
 
-/// Finds the least label of the list above the last one that was tried.
+/// Finds the least label of the list that is above the last one that was tried.
 fn least_above(items: &[Named], tried: &Option<Label>) -> Label
     requires { StartsAbove tried.now items.now }
     ensures { LeastAbove tried.now items.now result }

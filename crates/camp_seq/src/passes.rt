@@ -58,7 +58,7 @@ fn pass_all(r: &mut [Named], s: &mut [Named]) -> bool
     true
 }
 
-/// Commutes `p` past all of `s`, which is after it, in place. False if it cannot pass; both are then partly
+/// Commutes `p` past all of `s`, which comes after it, in place. False if it cannot pass; both are then partly
 /// commuted.
 pub(crate) fn pass(p: &mut Named, s: &mut [Named]) -> bool
     ensures exact { FindsPair (Passes p.old s.old) (then_some result (s.new, p.new)) }
@@ -88,8 +88,7 @@ fn pass_with_last(p: &mut Named, s: &mut [Named], last: &mut Named) -> bool
     true
 }
 
-/// Commutes `p` past all of `s`, which is after it, in place. False if it cannot pass; both are then
-/// unchanged.
+/// Commutes `p` past all of `s`, which comes after it, in place. False if it cannot pass; both are then unchanged.
 fn pass_or_stay(p: &mut Named, s: &mut [Named]) -> bool
     ensures exact { Changes PassesInPlace (p.old, s.old) result (p.new, s.new) }
 {
@@ -101,8 +100,8 @@ fn pass_or_stay(p: &mut Named, s: &mut [Named]) -> bool
     true
 }
 
-/// Commutes `p`, which is before `s`, as far to the right as it can be moved, in place. Returns the number of
-/// elements of `s` before it.
+/// Commutes `p`, which comes before `s`, as far to the right as it can be moved, in place. Returns the number of
+/// elements of `s` that then come before `p`.
 fn go_past(p: &mut Named, s: &mut [Named]) -> usize
     ensures { GoesPast s.old p.old result s.new p.new }
 {
@@ -114,7 +113,7 @@ fn go_past(p: &mut Named, s: &mut [Named]) -> usize
     s.len()
 }
 
-/// Commutes `p`, which is after `s`, to before all of it, in place. False if it cannot be moved there; both
+/// Commutes `p`, which comes after `s`, past all of it to the left, in place. False if it cannot be moved there; both
 /// are then unchanged.
 pub(crate) fn precede(s: &mut [Named], p: &mut Named) -> bool
     ensures exact { Changes PrecedesInPlace (s.old, p.old) result (s.new, p.new) }
@@ -127,8 +126,8 @@ pub(crate) fn precede(s: &mut [Named], p: &mut Named) -> bool
     true
 }
 
-/// Commutes `p`, which is after `s`, as far to the left as it can be moved, in place. Returns the number of
-/// elements of `s` still before it.
+/// Commutes `p`, which comes after `s`, as far to the left as it can be moved, in place. Returns the number of elements
+/// of `s` that then come before `p`.
 #[tactic(auto, using(crate::proofs::ListSteps::none_done))]
 pub(crate) fn come_forward(s: &mut [Named], p: &mut Named) -> usize
     ensures { ComesUpTo s.old p.old result s.new p.new }

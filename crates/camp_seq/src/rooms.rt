@@ -19,8 +19,8 @@ pub fn reach_gives_room()
     ensures law { ReachGivesRoom }
 {}
 
-/// True if a list certainly has headroom: the greatest line of its hunks and the counts of all their lines
-/// add up to at most 2^30. Other lists may have headroom too.
+/// True only if a list has headroom: the greatest line of its hunks and the counts of all their lines add up to at most
+/// 2^30. False decides nothing.
 pub fn has_room(s: &Seq) -> bool
     ensures exact { IsTrue result ↔ (reach_of s.now ≤ greatest_reach) }
     ensures room { IsTrue result → HasRoom s.now }
@@ -28,8 +28,8 @@ pub fn has_room(s: &Seq) -> bool
     surely_has_room(&s.items)
 }
 
-/// True if the greatest line of a list's hunks and the counts of all their lines are together in the range of
-/// one hunk; then no commuting brings a hunk out of range. False decides nothing. Visits each element once.
+/// True only if the greatest line of a list's hunks and the counts of all their lines are together in the range of one
+/// hunk; then no commuting brings a hunk out of range. False decides nothing. Visits each element once.
 pub(crate) fn surely_has_room(items: &[Named]) -> bool
     ensures exact { IsTrue result ↔ (reach_of items.now ≤ greatest_reach) }
     ensures room { IsTrue result → HasRoom items.now }
@@ -40,9 +40,9 @@ pub(crate) fn surely_has_room(items: &[Named]) -> bool
     }
 }
 
-/// True if two lists that begin in the same state, each followed by one more element, certainly have headroom
-/// to merge in any order of their elements: the greatest line and the counts of all their lines add up to at
-/// most 2^30. Visits each element once.
+/// True only if two lists that begin in the same state, each followed by one more element, have headroom to merge in
+/// any order of their elements: the greatest line and the counts of all their lines add up to at most 2^30. False
+/// decides nothing. Visits each element once.
 pub fn has_room_to_merge(s: &[Named], p: &Named, t: &[Named], q: &Named) -> bool
     ensures exact { IsTrue result ↔ (reach_of ((s.now ++ p.now ∷ []) ++ (t.now ++ q.now ∷ [])) ≤ greatest_reach) }
     ensures room { IsTrue result → HasRoomToMerge (s.now ++ p.now ∷ []) (t.now ++ q.now ∷ []) }

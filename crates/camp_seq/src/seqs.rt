@@ -5,7 +5,7 @@ use camp_prim::Named;
 use std::alloc::{AllocError, AllocFailed, Global};
 use std::marker::Model;
 
-/// A list of labelled primitives, each in the state that those before it leave.
+/// A list of labelled primitives, each of which applies to the state that those before it leave.
 #[derive(Debug, Drop)]
 pub struct Seq {
     pub(crate) items: Vec<Named>,

@@ -48,8 +48,7 @@ fn gather(items: &mut [Named], labels: &[Label]) -> Option<usize>
     Some(count)
 }
 
-/// Commutes the first element past the others, in place. False if it cannot pass; they are then partly
-/// commuted.
+/// Commutes the first element past all others, in place. False if it cannot pass; they are then partly commuted.
 fn pass_first(items: &mut [Named]) -> bool
     ensures exact { Finds (FirstPasses items.old) (then_some result items.new) }
 {

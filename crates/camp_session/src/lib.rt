@@ -1,4 +1,4 @@
-//! Repositories and views of them, which are asked texts and answer with texts, to be embedded in a program.
+//! Repositories and views that take texts and return texts, for programs that embed them.
 #![tactic(auto)]
 
 mod sessions;

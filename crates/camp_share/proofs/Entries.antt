@@ -1,4 +1,4 @@
--- What edits of a sorted list of entries do to the finite map that the list stands for.
+-- What edits of a sorted list of entries do to the finite map that the list represents.
 use Rattle.camp_share.proofs.Words.{◌≡◌, ℕ, zero, suc, Bool, true, false, cond, not, ◌&&◌, T, List, [], ◌∷◌, get_or, set, sym, ◌<◌, ◌≤◌, arith, ap, subst, ◌∙◌, refl, length, None, Some, insert, remove, Ordering, is_lt, is_eq, eq_by_cmp, ordering_reverse, Less, Equal, Greater, IsTotalOrder, tied_itself, tied_back, alike_right, eq_by_cmp_equiv, from_sorted}
 use Rattle.camp_share.proofs.Words.{IsAntisymmetric, same_map, same_entries_map, entries-from_sorted, entries-insert, get-from_sorted, get-remove, get_tied, len-entries, empty_of_len, find, put, is_sorted, below_all, where_key, is_sorted-put, is_sorted-where_key, find-where_key, IsAt, WouldBeAt}
 use Rattle.std.specs.FinMap as map

@@ -1,4 +1,4 @@
-//! Edits of a list in chunks: each makes a new list that shares the chunks it does not change.
+//! Edits of a list in chunks. Each makes a new list that shares unchanged chunks.
 ghost use Rattle.std.specs.Prelude.{◌≡◌, ◌+◌, ◌*◌, ◌<◌, ◌≤◌, ◌^◌, List, ◌∷◌, [], ◌++◌, length, take, drop, slice_set, IfOk, IfSome, IsTrue, OnOk};
 ghost use Rattle.std.specs.List.{All, insert, remove};
 ghost use Rattle.camp_share.specs.Inside.Parts.{joined, longest_part, IsPart, offset, IsPlace};
@@ -38,7 +38,7 @@ impl<T: Share + Drop> Change<T> {
         }
     }
 
-    // Starts a list with the elements before `place` of chunk `index`; shares whole chunks.
+    // Starts a list with the elements before `place` of chunk `index`; shares the chunks before that one.
     pub(crate) fn before(
         parts: &Growing<Part<T>>,
         index: usize,
@@ -54,7 +54,7 @@ impl<T: Share + Drop> Change<T> {
         Ok(Change { parts, middle })
     }
 
-    // Seals the chunks at the end where other chunks are sealed; the elements stay the same.
+    // Seals the last chunks of the list if others are sealed before them. The elements stay the same.
     fn settled(self) -> Result<Change<T>, AllocError>
         ensures { IfOk result (λ change. change ≡ self) }
     {
@@ -80,7 +80,7 @@ impl<T: Share + Drop> Change<T> {
         self.middle.push_items(items)
     }
 
-    // Appends all elements from `place` of chunk `index` on and returns the finished chunks.
+    // Appends all elements from `place` of chunk `index` on. Returns the finished chunks.
     pub(crate) fn with_rest(
         mut self,
         parts: &Growing<Part<T>>,
@@ -141,7 +141,7 @@ impl<T: Share + Drop> Change<T> {
         Ok(index + 1)
     }
 
-    // Returns the chunks of all elements; the tail becomes the last chunk.
+    // Makes the tail the last chunk. Returns all chunks.
     pub(crate) fn into_parts(self) -> Result<Growing<Part<T>>, AllocError>
         ensures items { IfOk result (λ parts. joined parts ≡ self) }
         ensures parts { IfOk result (λ parts. All IsPart parts) }
@@ -152,8 +152,8 @@ impl<T: Share + Drop> Change<T> {
     }
 }
 
-// Returns the same offset of the list, as the end of the chunk before if that chunk has room for another
-// element.
+// Returns an equivalent position: the end of the chunk before instead of the start of a chunk, if the chunk before has
+// room for another element.
 fn behind_with_room<T>(parts: &Growing<Part<T>>, index: usize, place: usize) -> (usize, usize)
     requires parts { All IsPart parts.now }
     requires place { IsPlace parts.now index place }
@@ -186,7 +186,8 @@ fn front_of<T: Share + Drop>(
     Growing::of_part(parts.at(index), place)
 }
 
-// Finds the chunk and the position in it of element `index`; one past the last chunk for the end of the list.
+// Finds the chunk of element `index`, and the element's position in it; for the end of the list, returns the position
+// after the last chunk.
 pub(crate) fn place_of<T>(parts: &Growing<Part<T>>, index: usize, len: usize) -> (usize, usize)
     requires parts { All IsPart parts.now }
     requires len { len ≡ length (joined parts.now) }
@@ -209,7 +210,7 @@ pub(crate) fn place_of<T>(parts: &Growing<Part<T>>, index: usize, len: usize) ->
     (count, left)
 }
 
-// Inserts an element at a position of a chunk; a chunk that grows too long is halved.
+// Inserts an element at a position in a chunk; halves the chunk if it becomes too long.
 pub(crate) fn inserted_at<T: Share + Drop>(
     parts: &Growing<Part<T>>,
     index: usize,
@@ -234,7 +235,7 @@ pub(crate) fn inserted_at<T: Share + Drop>(
     with_end_of(parts, index, place, items)
 }
 
-// Replaces the element at a position of a chunk.
+// Replaces the element at a position in a chunk.
 pub(crate) fn replaced_at<T: Share + Drop>(
     parts: &Growing<Part<T>>,
     index: usize,
@@ -252,8 +253,8 @@ pub(crate) fn replaced_at<T: Share + Drop>(
     with_end_of(parts, index, place + 1, items)
 }
 
-// Replaces `gone` elements at a position of a chunk by copies of `new`. `None` unless all of them lie in that
-// chunk, `new` has 1 to 24 elements and the result fits in one chunk or its halves.
+// Replaces `gone` elements at a position in a chunk by copies of `new`. `None` unless all of them lie in that chunk,
+// `new` has 1 to 24 elements, and the result fits in one chunk or its halves.
 pub(crate) fn spliced_in_part<T: Share + Drop>(
     parts: &Growing<Part<T>>,
     index: usize,
@@ -281,8 +282,8 @@ pub(crate) fn spliced_in_part<T: Share + Drop>(
     Ok(Some(changed))
 }
 
-// True if a chunk has `gone` elements at `place` and can take `new` ones instead: it stays short enough, or it can be
-// halved, which is done only if `place` is neither its start nor its end.
+// True if a chunk has `gone` elements at `place` and can have `new` ones instead: it stays short enough, or it can be
+// halved. It is halved only if `place` is neither its start nor its end.
 fn is_within<T>(part: &[T], place: usize, gone: usize, new: usize) -> bool
     requires { place ≤ length part.now }
     ensures within { IsTrue result → place + gone ≤ length part.now }
@@ -342,7 +343,7 @@ fn push_as_parts<T: Share + Drop>(
     push_as_part(parts, items)
 }
 
-// Removes the element at a position of a chunk.
+// Removes the element at a position in a chunk.
 pub(crate) fn removed_at<T: Share + Drop>(
     parts: &Growing<Part<T>>,
     index: usize,

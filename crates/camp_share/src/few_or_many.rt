@@ -1,4 +1,4 @@
-//! The entries of a map: one chunk while they are few, a chunk tree after.
+//! The entries of a map: one chunk for up to 24 of them, else a chunk tree.
 ghost use Rattle.std.specs.Prelude.{◌≡◌, length, slice_get, IfOk};
 ghost use Rattle.std.specs.Option.{option_copied};
 ghost use Rattle.std.specs.Map.Iter.{ShowsInOrder, deref};
@@ -10,7 +10,7 @@ use crate::pieces::OnePart;
 use crate::{Iter, Share};
 use std::alloc::{AllocError, Global};
 
-// The entries of a map: one chunk, or a chunk tree once there were more than 24.
+// The entries of a map: one chunk, or a chunk tree if the map ever had more than 24 entries.
 #[derive(Drop)]
 pub(crate) enum Entries<T> {
     OnePart(OnePart<T>),

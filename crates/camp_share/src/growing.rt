@@ -99,8 +99,8 @@ impl<T> Growing<T> {
 }
 
 impl<T: Share + Drop> Growing<T> {
-    // Copies the first `count` elements; shares whole chunks. If a chunk is cut, the tail gets capacity for all of its
-    // elements and one more.
+    // Makes a list of the first `count` elements; shares whole chunks. If a chunk is cut, its first elements become the
+    // tail, whose capacity is for the whole chunk and one more.
     pub(crate) fn front(&self, count: usize) -> Result<Growing<T>, AllocError>
         requires { count ≤ length self.now }
         ensures { IfOk result (λ front. front ≡ take count self.now) }
@@ -119,7 +119,7 @@ impl<T: Share + Drop> Growing<T> {
         Ok(Growing { closed, last })
     }
 
-    // Copies the first `count` elements of a chunk into the tail, with capacity for the others and one more.
+    // Copies the first `count` elements of a chunk into the tail, with capacity for the whole chunk and one more.
     pub(crate) fn of_part(part: &Part<T>, count: usize) -> Result<Growing<T>, AllocError>
         requires part { IsPart part.now }
         requires within { count ≤ length part.now.items }
@@ -178,9 +178,9 @@ impl<T: Share + Drop> Growing<T> {
         Ok(())
     }
 
-    // Seals the tail if other chunks are sealed; the elements stay the same. A copy of the list then
-    // increments one count for the tail and not one for each element. A list without sealed chunks is short:
-    // a vector of chunks would cost more than it saves. Only the tests see whether it is called.
+    // Seals the tail if other chunks are sealed. The elements stay the same; a copy of the list then increments one
+    // reference count for the tail instead of one for each element. A list without sealed chunks is short: a vector of
+    // chunks would cost more than it saves. Only tests can observe whether this is called.
     pub(crate) fn settle(&mut self) -> Result<(), AllocError>
         ensures { OnOk result (self.new ≡ self.old) }
     {
@@ -224,7 +224,7 @@ impl<T: Share + Drop> Growing<T> {
         !self.last.is_empty() && count <= MAX_PART_LENGTH - self.last.len()
     }
 
-    // Appends the list to a list of chunks: its sealed chunks, and its tail as one more chunk.
+    // Appends the list to a list of chunks: its sealed chunks, and then its tail as one chunk.
     pub(crate) fn close_into(self, parts: &mut Growing<Part<T>>) -> Result<(), AllocError>
         requires { All IsPart parts.old }
         ensures items { OnOk result (joined parts.new ≡ joined parts.old ++ self) }
@@ -259,7 +259,7 @@ pub(crate) fn length_of<T>(parts: &[Part<T>]) -> usize
     sum
 }
 
-// Copies the first `count` items, with capacity for the others and one more.
+// Copies the first `count` items; the capacity is one more than the number of all items.
 pub(crate) fn first_of<T: Share + Drop>(items: &Vec<T>, count: usize) -> Result<Vec<T>, AllocError>
     requires { count ≤ length items.now.items }
     ensures { IfOk result (λ first. first.items ≡ take count items.now.items) }
@@ -316,8 +316,8 @@ pub(crate) fn append_copies<T: Share + Drop>(
     Ok(())
 }
 
-// Reserves exactly the capacity of a whole chunk once the vector is more than half of one, instead of
-// doubling past it.
+// Reserves exactly the capacity of a whole chunk once the vector has more than half of one, instead of doubling its
+// capacity.
 fn make_room<T>(items: &mut Vec<T>) -> Result<(), AllocError>
     requires { length items.old.items < longest_part }
     ensures { items.new.items ≡ items.old.items }
@@ -329,7 +329,7 @@ fn make_room<T>(items: &mut Vec<T>) -> Result<(), AllocError>
     Ok(())
 }
 
-// Moves the last sealed chunk back to the front of the tail if both fit in one chunk.
+// Moves the elements of the last sealed chunk back to the start of the tail, if both fit in one chunk.
 fn take_back<T: Share + Drop>(
     closed: &mut Vec<Part<T>>,
     last: &mut Vec<T>,

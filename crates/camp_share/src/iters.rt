@@ -96,7 +96,7 @@ impl<'a, T> Model for Iter<'a, T> {
 }
 
 impl<'a, T> Iter<'a, T> {
-    // Iterates over the rest of a chunk, the chunks after it and a last chunk.
+    // Iterates over the rest of a chunk, the chunks after it, and a last chunk.
     pub(crate) fn new(part: &'a [T], parts: Steps<'a, Part<T>>, last: &'a [T]) -> Iter<'a, T>
         requires { All IsPart parts }
         ensures rest { result ≡ (part.now ++ joined parts.entry) ++ last.now }

@@ -1,4 +1,4 @@
-//! The shared list: chunks in a tree, and a last chunk outside it.
+//! The shared list: a chunk tree, and its last chunk apart from the tree.
 ghost use Rattle.std.specs.Prelude.{◌≡◌, ◌+◌, ◌<◌, ◌≤◌, ◌^◌, ◌==◌, List, [], ◌∷◌, ◌++◌, length, take, drop, slice_get, slice_range, slice_set, IfOk};
 ghost use Rattle.std.specs.List.{splice, insert, remove};
 ghost use Rattle.std.specs.Cow.{cow_slice_items};
@@ -14,8 +14,8 @@ use std::alloc::{AllocError, Global};
 use std::borrow::CowSlice;
 use std::marker::Model;
 
-/// A list in chunks of up to 24 elements, which it shares with the lists that it was made from. The last
-/// chunk is held apart from the others; all chunks before it share one reference count.
+/// A list in chunks of up to 24 elements, which it shares with the lists that it was made from. The last chunk is
+/// stored apart from the others; these share one reference count.
 #[derive(Drop)]
 pub struct SharedList<T> {
     front: Front<T>,

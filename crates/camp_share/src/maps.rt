@@ -1,4 +1,4 @@
-//! The sorted map over shared entries, and the builder that fills one.
+//! The sorted map over shared entries, and a builder for it.
 ghost use Rattle.std.specs.Prelude.{◌≡◌, ◌==◌, if◌then◌else◌, T as Holds, IfOk, OnErr, OnOk, slice_get};
 ghost use Rattle.std.specs.Option.{option_copied};
 ghost use Rattle.std.specs.FinMap as map;
@@ -25,8 +25,8 @@ pub trait Key: Ord + Share + Drop {
     ghost same: { IsAntisymmetric Self.cmp };
 }
 
-/// A map sorted by its keys. A map that never had more than 24 entries is one chunk; any other is a chunk
-/// tree, and shares the chunks that a change leaves whole.
+/// A map sorted by its keys. A map that never had more than 24 entries is one chunk; any other is a chunk tree, whose
+/// unchanged chunks a changed map shares.
 #[derive(Drop)]
 pub struct SharedMap<K: Key, V> {
     entries: Entries<(K, V)>,
@@ -108,7 +108,7 @@ impl<K: Key, V> SharedMap<K, V> {
         self.alloc
     }
 
-    // Makes the map of sorted entries.
+    // Makes a map from sorted entries.
     fn of(alloc: Global, entries: Entries<(K, V)>) -> SharedMap<K, V>
         requires { Holds (is_sorted K.cmp (entries_of entries)) × IsForm entries }
         ensures { result ≡ entries_of entries }
@@ -138,7 +138,7 @@ fn value_in_parts<'a, K: Key, V>(list: &'a PartList<(K, V)>, key: &K) -> Option<
 }
 
 impl<K: Key, V: Share + Drop> SharedMap<K, V> {
-    /// Returns the map in which the key has this value; replaces the value that it had.
+    /// Returns the map in which the key has this value, instead of any value that it had.
     pub fn inserted(&self, key: K, value: V) -> Result<SharedMap<K, V>, AllocError>
         ensures exact { IfOk result (λ new. map_of K.cmp new ≡ map.insert (map_of K.cmp self.now) key value) }
     {
@@ -276,8 +276,8 @@ impl<K: Key, V: PartialEq> PartialEq for SharedMap<K, V> {
     }
 }
 
-/// Builds a map entry by entry. The entries stand sorted in one vector and are divided into chunks at the
-/// end; up to 24 of them become one chunk without a copy.
+/// Builds a map entry by entry. The entries are kept sorted in one vector and divided into chunks at the end; up to 24
+/// of them become one chunk without being copied.
 #[derive(Drop)]
 pub struct MapBuilder<K: Key, V> {
     entries: Vec<(K, V)>,
@@ -309,7 +309,7 @@ impl<K: Key, V: Share + Drop> MapBuilder<K, V> {
         }
     }
 
-    /// Starts with the entries of a map.
+    /// Starts a builder with the entries of a map.
     pub fn from_map(map: &SharedMap<K, V>) -> Result<MapBuilder<K, V>, AllocError>
         ensures exact { IfOk result (λ builder. map_of K.cmp builder ≡ map_of K.cmp map.now) }
     {
@@ -317,7 +317,7 @@ impl<K: Key, V: Share + Drop> MapBuilder<K, V> {
         Ok(MapBuilder { entries })
     }
 
-    /// Builds the map of the entries.
+    /// Builds a map of the entries.
     pub fn into_map(self) -> Result<SharedMap<K, V>, AllocError>
         ensures exact { IfOk result (λ map. map_of K.cmp map ≡ map_of K.cmp self) }
     {

@@ -12,9 +12,9 @@ use crate::{Iter, Share};
 use std::alloc::{AllocError, Global};
 use std::marker::Model;
 
-// A list in chunks of up to 24 elements, which it shares with the lists that it was made from. The chunks are
-// grouped in sealed chunks of up to 24; a copy increments one count for each of these groups, and one for
-// each of the up to 24 chunks after them.
+// A list in chunks of up to 24 elements, which it shares with the lists that it was made from. The chunks are grouped
+// in sealed groups of up to 24. A copy increments one reference count for each group, and one for each of the up to 24
+// chunks after the groups.
 #[derive(Drop)]
 pub(crate) struct PartList<T> {
     parts: Growing<Part<T>>,
@@ -75,8 +75,8 @@ impl<T> PartList<T> {
         Iter::new(&[], parts, last)
     }
 
-    // The same if `from` lies in one of the chunks after the groups, which are searched from the end; else
-    // `None`.
+    // Iterates as `iter_from` does if `from` lies in one of the chunks after the groups, which are searched from the
+    // end; else returns `None`.
     fn near_end<'a>(&'a self, from: usize, last: &'a [T]) -> Option<Iter<'a, T>>
         ensures { IfSome result (λ it. (it ≡ drop from self.now ++ last.now) × ShowsInOrder (deref {X = T})) }
     {
@@ -111,7 +111,7 @@ impl<T> PartList<T> {
         &self.parts
     }
 
-    // Makes the list of chunks that have `len` elements together.
+    // Makes the list of these chunks, which have `len` elements together.
     pub(crate) fn of_parts(parts: Growing<Part<T>>, len: usize) -> PartList<T>
         requires parts { All IsPart parts }
         requires len { len ≡ length (joined parts) }

@@ -1,4 +1,4 @@
-//! The two pieces of a shared list: the chunk tree in front, and the last chunk.
+//! The two pieces of a shared list: the chunk tree, and the last chunk after it.
 ghost use Rattle.std.specs.Prelude.{◌≡◌, ◌<◌, ◌≤◌, [], ◌∷◌, ◌++◌, length, drop, Ok, IfOk};
 ghost use Rattle.std.specs.List.{remove, splice};
 ghost use Rattle.std.specs.Map.Iter.{ShowsInOrder, deref};
@@ -9,7 +9,7 @@ use crate::{Iter, Share, Shared};
 use std::alloc::{AllocError, Global};
 use std::marker::Model;
 
-// Elements that the last chunk may hold if other chunks are before it.
+// The most elements of a last chunk that comes after others.
 const FEW: usize = 12;
 
 // The elements before the last chunk of a list; lists share them by one reference count.
@@ -28,7 +28,7 @@ impl<T> Model for Front<T> {
 }
 
 impl<T> Front<T> {
-    // Makes an empty front.
+    // Makes an empty chunk tree.
     pub(crate) fn empty() -> Front<T>
         ensures { result ≡ [] }
     {
@@ -58,7 +58,7 @@ impl<T> Front<T> {
 }
 
 impl<T: Drop> Front<T> {
-    // Makes the front of a chunk tree.
+    // Wraps a chunk tree as the elements before a last chunk.
     pub(crate) fn of(alloc: Global, list: PartList<T>) -> Result<Front<T>, AllocError>
         ensures { IfOk result (λ front. front ≡ list) }
     {
@@ -114,7 +114,7 @@ impl<T> Model for OnePart<T> {
 }
 
 impl<T> OnePart<T> {
-    // Makes an empty one; does not allocate.
+    // Makes a chunk without elements; does not allocate.
     pub(crate) fn empty() -> OnePart<T>
         ensures { result ≡ [] }
     {
@@ -133,7 +133,7 @@ impl<T> OnePart<T> {
 }
 
 impl<T: Drop> OnePart<T> {
-    // Makes a chunk of the items; does not allocate if there are none.
+    // Makes a chunk of these items; does not allocate if there are none.
     pub(crate) fn of(items: Vec<T>) -> Result<OnePart<T>, AllocError>
         ensures { IfOk result (λ last. last ≡ items.items) }
     {
@@ -209,8 +209,8 @@ impl<T> Share for OnePart<T> {
     }
 }
 
-// Replaces the elements `from..to` of a front and a last chunk by copies of `items`. A change within one of
-// the two shares the other; a change of both joins them.
+// Replaces the elements `from..to` of a chunk tree and a last chunk by copies of `items`. A change within one of the
+// two shares the other; a change of both makes one chunk tree of them.
 pub(crate) fn spliced<T: Share + Drop>(
     front: &Front<T>,
     last: &OnePart<T>,
@@ -236,8 +236,7 @@ pub(crate) fn spliced<T: Share + Drop>(
     spliced_whole(list, alloc, from, to, items)
 }
 
-// Replaces the elements `from..to` of a chunk tree by copies of `items`. Up to 12 items that are appended
-// become a last chunk.
+// Replaces the elements `from..to` of a chunk tree by copies of `items`. Up to 12 items at the end become a last chunk.
 fn spliced_whole<T: Share + Drop>(
     list: PartList<T>,
     alloc: Global,
@@ -270,8 +269,8 @@ fn both<A: Drop, B: Drop>(
     Ok((first, second))
 }
 
-// True if the last chunk can replace `gone` elements by `new` ones: it may then have up to 24 elements if it is the only
-// chunk, else up to 12.
+// True if the last chunk can have `new` elements instead of `gone` ones: if it is the only chunk it may have up to 24
+// elements, else up to 12.
 pub(crate) fn has_room<T>(border: usize, last: &OnePart<T>, gone: usize, new: usize) -> bool {
     let most = if border == 0 { MAX_PART_LENGTH } else { FEW };
     let kept = last.items().len().saturating_sub(gone);

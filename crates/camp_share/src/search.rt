@@ -31,7 +31,7 @@ pub(crate) fn part_for<'a, K: Key, V>(
     (&closed[..at], found, among.get(found))
 }
 
-// Finds the partition point of items of which those that pass stand first: the number of items that pass.
+// Finds the partition point of items: the number of those that pass a test; all that pass come first.
 fn by_halves<T, F: Fn(&T) -> bool>(items: &[T], passed: F) -> usize
     requires { F.IsAlwaysCallable passed }
     ensures within { result ≤ length items.now }
@@ -57,7 +57,7 @@ fn ends_below<K: Key, V>(part: &[(K, V)], key: &K) -> bool
     part.last().is_some_and(|entry| entry.0.cmp(key).is_lt())
 }
 
-// Searches sorted entries for a key: its index, or as an error the index at which it would be inserted.
+// Searches sorted entries for a key. Returns its index or, as an error, the index at which it would be inserted.
 pub(crate) fn place_in<K: Key, V>(entries: &[(K, V)], key: &K) -> Result<usize, usize>
     requires { Holds (is_sorted K.cmp entries.now) }
     ensures range { IsSearchInRange result (length entries.now) }
@@ -67,8 +67,7 @@ pub(crate) fn place_in<K: Key, V>(entries: &[(K, V)], key: &K) -> Result<usize, 
     entries.binary_search_by(|entry| entry.0.cmp(key))
 }
 
-// Searches chunks for a key: the chunk and the position in it, or as an error those at which it would be
-// inserted.
+// Searches chunks for a key. Returns its chunk and position or, as an error, those at which it would be inserted.
 pub(crate) fn search<K: Key, V>(
     parts: &Growing<Part<(K, V)>>,
     key: &K,

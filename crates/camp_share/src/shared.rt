@@ -1,4 +1,4 @@
-//! The reference-counted value, and the trait of what is copied without copying its contents.
+//! The reference-counted value, and the trait of values whose copies share their contents.
 ghost use Rattle.std.specs.Prelude.{◌≡◌, IfOk};
 
 use std::alloc::{AllocError, Global};
@@ -6,7 +6,7 @@ use std::marker::Model;
 use std::ops::Deref;
 use std::sync::Arc;
 
-/// Values that are copied by counting references: a copy shares the contents of the first.
+/// Values that are copied by reference counting: a copy shares the contents of the original.
 pub trait Share: Sized {
     /// Copies the value; the copy is equal.
     fn share(&self) -> Result<Self, AllocError>
@@ -28,7 +28,7 @@ impl<T> Model for Shared<T> {
 }
 
 impl<T: Drop> Shared<T> {
-    /// Allocates the value with its first owner. Out of memory drops the value.
+    /// Allocates the value, with one owner. If memory runs out, the value is dropped.
     pub fn new(alloc: Global, value: T) -> Result<Shared<T>, AllocError>
         ensures exact { IfOk result (λ shared. shared ≡ value) }
     {

@@ -46,7 +46,7 @@ room_ready old mid room goes stays sent reading = by_sent old.sent refl
     by_sent zero none = room_alone (shared_from old.reading.first) (IsStopped (shared_from old.reading.first) old) old mid room goes (sent ∙ none) index
     by_sent (suc n) some = subst (λ (m : Sharing). HasRoomForTexts m) (sym (stays (omega (arith, some)))) room
 
--- a member that has said what it wants
+-- a member after it has returned what it wants
 pub room_wanted : (mid new : Sharing) (count : ℕ) → HasRoomForTexts mid → (0 < mid.sent → new ≡ mid) → new.waiting ≡ mid.waiting → (mid.sent ≡ 0 → new.sent ≤ (if count == 0 then 1 else count)) → AreFitting mid.waiting count → new.reading ≡ mid.reading → HasRoomForTexts new
 room_wanted mid new count room stays waiting few fits reading = by_sent mid.sent refl
   where

@@ -1,4 +1,4 @@
--- What a member of a log of texts does with what it is asked, and with what it finds.
+-- What a member of a log of texts does with requests, and with what it finds in the log.
 use Rattle.std.specs.Prelude.{◌≡◌, ◌≢◌, ◌<◌, ◌≤◌, ◌+◌, ◌-◌, ◌⊎◌, ℕ, true, false, List, [], ◌∷◌, ◌++◌, length, Result, Ok, Err, Option, None, Some, IfSome, IsSome}
 use Rattle.camp_call.specs.declared.calls.Call.{Call}
 use Rattle.camp_entries.specs.Texts.{CanBeLogged, IsEntryOf, IsNoted, noted_text, text_of_entry}
@@ -17,7 +17,8 @@ use Rattle.camp_shared.specs.declared.faults.AskFault.TheVariants.{Memory, NoCal
 use Rattle.camp_shared.specs.declared.wanting.TextWant.{TextWant}
 use Rattle.camp_shared.specs.declared.wanting.TextWant.TheVariants as text_want
 
--- a text is asked: it is that of one call after its note, which waits after the other requests; or nothing has changed
+-- a text is asked: it is that of one call after its note, which then waits after the other requests; or nothing has
+-- changed
 abbrev pub AsksText : ℕ → List ℕ → ℕ → Sharing → Result (Unit {0}) AskFault → Sharing → Type 0
 AsksText id text at_least old (Ok done) new =
     (call : WithNote Call) × IsNoted call × (noted_text call ≡ text) × (length text ≤ most_bytes_of_calls)
@@ -26,8 +27,8 @@ AsksText id text at_least old (Err Memory) new = new ≡ old
 AsksText id text at_least old (Err NoCall) new = ((call : WithNote Call) → IsNoted call → noted_text call ≢ text) × (new ≡ old)
 AsksText id text at_least old (Err TooLong) new = (most_bytes_of_calls < length text) × (new ≡ old)
 
--- what is wanted, as text: an index of the log is counted from the title; an entry is one that a log can contain, by its number
--- and its text
+-- what is wanted, as text: an index of the log counts from the title; an entry is one that a log can contain, by its
+-- number and its text
 abbrev pub IsRendered : Want (WithNote Call) → TextWant → Type 0
 IsRendered want.Nothing text_want.Nothing = Unit {0}
 IsRendered (want.Read from) (text_want.Read at) = at ≡ from + 1
@@ -35,14 +36,14 @@ IsRendered (want.Append entry) (text_want.Append number text) =
     (number ≡ entry.number) × CanBeLogged entry × (text.items ≡ text_of_entry entry)
 IsRendered _ _ = ⊥
 
--- what a member wants of its log, as text; it begins to append only if it needs to
+-- what a member wants of its log, as text; it begins to append only if it has to
 pub record WantsText (old new : Sharing) (text : TextWant) : Type 0 where
   pub what : Want (WithNote Call)
   pub renders : IsRendered what text
   pub wants : WantsOfLog (noting repository) what new
   pub needed : old.sent ≡ 0 → IsNeeded (shared_from new.reading.first) what new
 
--- what was parsed at the next index of the log is read, or it stops the member
+-- the entry parsed at the next index of the log is read, or it stops the member
 abbrev pub ReadsNextEntry : Sharing → ℕ → Option (Tagged (WithNote Call)) → Result (Unit {0}) ReadFault → Sharing → Type 0
 ReadsNextEntry old index found (Ok done) new =
     (old.is_stopped ≡ false) × IfSome found (λ entry. FindsEntry (shared_from old.reading.first) old entry new) × IsSome found
@@ -52,7 +53,8 @@ ReadsNextEntry old index found (Err (read.Foreign at)) new =
     (at ≡ index) × (new ≡ stopped old)
     × ((old.is_stopped ≡ true) ⊎ IsForeign (number_in old.reading.numbers) found ⊎ IsAlien (shared_from old.reading.first) old found)
 
--- the text at an index of the log is found: it was read before, or it is the next and its entry is read, or it stops the member
+-- the text at an index of the log is found: it was read before, or it is the next one and its entry is read, or it
+-- stops the member
 abbrev pub FindsText : Sharing → ℕ → List ℕ → Result (Unit {0}) ReadFault → Sharing → Type 0
 FindsText old index text (Ok done) new =
     ((index < old.reading.index + 1) × (new ≡ old))
@@ -63,6 +65,6 @@ FindsText old index text (Err (read.Foreign at)) new =
     (index ≡ old.reading.index + 1)
     × ((found : Option (Tagged (WithNote Call))) × IsEntryOf text found × ReadsNextEntry old index found (Err (read.Foreign at)) new)
 
--- a log ends at an index, counted with its title
+-- the log ends at an index, which counts from the title
 abbrev pub EndsTexts : Sharing → ℕ → Sharing → Type 0
 EndsTexts old index new = ((index ≡ 0) × (new ≡ old)) ⊎ ((0 < index) × AfterEnd (shared_from old.reading.first) old (index - 1) new)

@@ -9,21 +9,22 @@ use Rattle.camp_member.specs.Notes.{WithNote}
 use Rattle.camp_member.specs.declared.requests.Request.{Request}
 use Rattle.camp_shared.specs.Sharing.{Sharing, most_bytes_of_calls}
 
--- a request for a call that a log can contain, and that an entry has room for
+-- a request for a call that a log can contain and that fits in an entry
 abbrev pub CanBeAsked : Request (WithNote Call) → Type 0
 CanBeAsked request = IsNoted request.call × (length (noted_text request.call) ≤ most_bytes_of_calls)
 
--- the bytes of the calls of requests, with their notes
+-- the number of bytes of the calls of requests, with their notes
 abbrev pub bytes_asked : List (Request (WithNote Call)) → ℕ
 bytes_asked requests = length (flat_map noted_text (calls_asked requests))
 
--- an entry has room for each request that waits, and for those under way together; the next index of the log is a number
+-- each waiting request fits in an entry, and so do those under way together; the next index of the log fits in a
+-- `usize`
 pub record HasRoomForTexts (member : Sharing) : Type 0 where
   pub index : member.reading.index + 1 < 2 ^ 64
   pub each : AllByRecursion CanBeAsked member.waiting
   pub together : bytes_asked (take member.sent member.waiting) ≤ most_bytes_of_calls
 
--- an entry has room for as many of the first requests
+-- this number of first requests fits in an entry together
 pub record AreFitting (waiting : List (Request (WithNote Call))) (count : ℕ) : Type 0 where
   pub within : count ≤ length waiting
   pub together : bytes_asked (take count waiting) ≤ most_bytes_of_calls

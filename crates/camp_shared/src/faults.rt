@@ -11,20 +11,20 @@ use thiserror::Error;
 pub enum OpenFault {
     #[error("out of memory")]
     Memory,
-    /// Its first entry is no title of a log of a repository.
+    /// Its first entry is not the title of a log of a repository.
     #[error("no log of a repository")]
     NoTitle,
 }
 
-/// Why a text was not asked. The member is then as it was.
+/// Why a text was not asked. The member is then unchanged.
 #[derive(Clone, Copy, PartialEq, Eq, Debug, Error)]
 pub enum AskFault {
     #[error("out of memory")]
     Memory,
-    /// It is not the canonical text of one call, after its note if it has one.
+    /// It is not the canonical text of one call, with or without a note before it.
     #[error("not one call in canonical form")]
     NoCall,
-    /// It has more bytes than one entry has for calls.
+    /// It has more bytes than an entry has room for.
     #[error("a call of more than 1048516 bytes")]
     TooLong,
 }

@@ -1,4 +1,4 @@
-//! A repository that many processes share over a log of texts: a member of the log, texts in and texts out.
+//! A repository that many processes share over a log of texts. A member of the log takes texts and returns texts.
 #![tactic(auto)]
 
 mod faults;

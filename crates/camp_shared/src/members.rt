@@ -14,10 +14,10 @@ use camp_repo::{Reply, State, first_state};
 use std::alloc::{AllocError, Global};
 use std::marker::Model;
 
-/// The most bytes of the calls of an entry with their notes: those of an entry without its first line.
+/// The most bytes of the calls of an entry with their notes: what its first line leaves of the most bytes of an entry.
 pub const MAX_CALL_BYTES: usize = 1_048_516;
 
-/// A member of a log that shares a repository with others: it is given the texts of entries, and gives those to
+/// A member of a log that shares a repository with others: it is given the texts of entries, and returns those to
 /// append. Contracts see it as `Membership`.
 #[derive(Drop)]
 pub struct SharedRepository {
@@ -41,8 +41,8 @@ impl Model for SharedRepository {
 }
 
 impl SharedRepository {
-    /// Makes a member of a seat that nobody else has, over the log whose first entry has this text. Its history
-    /// begins with a new repository with the limits of the title.
+    /// Makes a member of a seat that no other process has, over the log whose first entry has this text. Its history
+    /// begins with a new repository with the limits of that title.
     pub fn new(alloc: Global, seat: u128, title: &[u8]) -> Result<SharedRepository, OpenFault>
         ensures opened { IfOk result (IsOpenedLog title.now seat) }
         ensures fault { IfErr result (IsNotOpened title.now) }
@@ -56,30 +56,30 @@ impl SharedRepository {
         })
     }
 
-    /// Returns the member: its history, with the notes, what waits for an answer, and whether it has stopped.
-    /// The entries that it counts come after the title.
+    /// Returns the member: its history, with the notes, the waiting requests, and whether it has stopped. Its indexes
+    /// do not count the title.
     pub fn member(&self) -> &Member<Noting<State>>
         ensures exact { result.now ≡ self.now }
     {
         &self.member
     }
 
-    /// Returns the index in the log of the entry that it reads next; the title has the index 0.
+    /// Returns the index in the log of the entry that it reads next; the title has index 0.
     pub fn index(&self) -> usize
         ensures exact { result ≡ self.now.reading.index + 1 }
     {
         self.member.reader().index() + 1
     }
 
-    /// Returns the repository after the calls that were accepted in what it has read.
+    /// Returns the repository after all accepted calls that it has read.
     pub fn state(&self) -> &State
         ensures exact { replay (shared_from self.now.reading.first) self.now.reading.history ≡ Some result.now }
     {
         self.member.reader().state().state()
     }
 
-    /// Queues a call under a number of the caller's, to be answered at no fewer accepted calls than `at_least`:
-    /// a question or a command in canonical form, after its note if it has one.
+    /// Queues a call under a number of the caller's, to be answered when the history has `at_least` accepted calls or
+    /// more: a question or a command in canonical form, after its note if it has one.
     pub fn ask(
         &mut self,
         alloc: Global,
@@ -100,7 +100,7 @@ impl SharedRepository {
         Ok(())
     }
 
-    /// Takes the next answer, in the order of the requests, with the number of its request.
+    /// Removes the next answer, in the order of the requests, and returns it with the number of its request.
     pub fn answer(&mut self) -> Option<(u64, Result<Reply, NoReply>)>
         ensures exact { MatchOption result
             ((self.old.answers ≡ []) × (self.new ≡ self.old))
@@ -109,8 +109,8 @@ impl SharedRepository {
         self.member.answer()
     }
 
-    /// Says that the log did not take the entry under way, and never will: its requests are answered so. If
-    /// memory runs out, the member is as it was.
+    /// Reports that the log has refused the entry under way, which will never be in it: its requests get no reply, for
+    /// that reason. If memory runs out, the member is unchanged.
     pub fn refused(&mut self) -> Result<(), AllocError>
         ensures refused { OnOk result (self.new ≡ without_reply no_reply.Refused self.old) }
         ensures stays { OnErr result (self.new ≡ self.old) }
@@ -119,9 +119,9 @@ impl SharedRepository {
         self.member.refused()
     }
 
-    /// Says that the log ends at an index: it has as many entries, with its title. Where that is all that was
-    /// read, the first request is answered so if it waits for more accepted calls. If memory runs out, the
-    /// member is as it was.
+    /// Reports that the log ends at an index: it has as many entries, with its title. If the member has read all of it
+    /// and the first request waits for more accepted calls, that request gets no reply. If memory runs out, the member
+    /// is unchanged.
     pub fn ended(&mut self, index: usize) -> Result<(), AllocError>
         ensures ends { OnOk result (EndsTexts self.old index self.new) }
         ensures stays { OnErr result (self.new ≡ self.old) }

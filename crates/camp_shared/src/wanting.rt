@@ -21,18 +21,17 @@ use std::alloc::{AllocError, Global};
 pub enum TextWant {
     /// Nothing: no request waits.
     Nothing,
-    /// What stands in the log from this index on; the title has the index 0.
+    /// To read the log from this index on; the title has index 0.
     Read { from: usize },
-    /// That this text is appended under its tag, which is the seat and this number, if none is there under it;
-    /// and what stands in the log up to it. It is wanted until it is found or refused.
+    /// To append this text under its tag, which is the seat and this number, unless there is an entry with that tag;
+    /// and to read the log up to it. It is wanted until it is found or refused.
     Append { number: u64, text: Vec<u8> },
 }
 
 impl SharedRepository {
-    /// Answers the first requests that can be answered at what was read, and says what the member wants of the
-    /// log. A new entry gets the calls of as many of the first requests as it can. An entry under way is wanted
-    /// as it is until it is found or refused. If memory runs out, the entry under way stays, and what was
-    /// answered stays answered.
+    /// Answers the first requests that can be answered at what was read, and returns what the member wants of the log.
+    /// A new entry gets the calls of as many of the first requests as fit. An entry under way is wanted unchanged until
+    /// it is found or refused. If memory runs out, the entry under way stays, and so do the answers already given.
     pub fn want(&mut self, alloc: Global) -> Result<TextWant, AllocError>
         ensures wants { IfOk result (WantsText self.old self.new) }
         ensures stays { 0 < self.old.sent → self.new ≡ self.old }
@@ -51,7 +50,7 @@ impl SharedRepository {
     }
 }
 
-// Returns how many of the first requests, at most 256, have calls that fit into one entry.
+// Returns how many of the first requests, at most 256, have calls that fit in one entry together.
 fn fitting(alloc: Global, waiting: &[Request<NotedCall<Call>>]) -> Result<usize, AllocError>
     requires { AllByRecursion CanBeAsked waiting.now }
     ensures { IfOk result (AreFitting waiting.now) }
@@ -72,7 +71,7 @@ fn fitting(alloc: Global, waiting: &[Request<NotedCall<Call>>]) -> Result<usize,
     Ok(count)
 }
 
-// Returns the bytes of a call after its note.
+// Returns the number of bytes of a call after its note.
 fn noted_len(alloc: Global, noted: &NotedCall<Call>) -> Result<usize, AllocError>
     requires { IsNoted noted.now }
     ensures { IfOk result (λ len. len ≡ length (noted_text noted.now)) }

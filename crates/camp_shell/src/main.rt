@@ -1,12 +1,13 @@
-//! `camp_shell`: loads the files that `--load` names, then reads commands from standard input, and answers
-//! each on standard output as soon as its last line is read; with `--frames` it does so request by request, and
-//! with `--export` it writes a branch for git instead. With `--store` the repository is kept in a file, and answers
-//! to lines may wait for commands that stand ready behind theirs. With `--check-store` it tells what a file keeps.
-//! The exit status is 0 at the end of the input, 1 where a command of a file was answered by a fault or a
-//! refusal, the input is no requests in frames, or the branch can't be written for git, 2 where the command line
-//! is refused, 3 where memory ran out, but for a command that is answered `memory`, or input, output or a store
-//! failed, and 4 where a line has no number, to which no conversation comes; standard error says why. Where nobody reads
-//! the output any more it is 141, and nothing is said.
+//! `camp_shell`: loads the files that `--load` names, then reads commands from standard input, and answers each on
+//! standard output as soon as its last line is read. With `--frames` it reads and answers request by request; with
+//! `--export` it writes a branch for git instead. With `--store` the repository is persisted in a file, and answers to
+//! lines may wait while further commands are ready. With `--check-store` it reports what a file contains.
+//!
+//! The exit status is 0 at the end of the input. It is 1 if a command of a file has a fault or is refused, if the input
+//! is not requests in frames, or if the branch can't be written for git; 2 if the command line is rejected; 3 if memory
+//! ran out (except for a command that is answered `memory`), or if input, output or a store failed; 4 if a line number
+//! exceeds 64 bits, which no conversation reaches; standard error says why. It is 141, without a report, if nobody
+//! reads the output any more.
 #![tactic(auto)]
 
 mod prompts;
@@ -61,7 +62,7 @@ fn hold<'a>(rt: &HostRuntime, words: &'a [String]) -> Result<(), Stop<'a>> {
     }
 }
 
-// Returns the limits that the command line gives, if it gives some.
+// Returns the limits that the command line gives, if any.
 fn limits_of(wish: &Wish<'_>) -> Result<Option<Limits>, WordsFault> {
     match wish.limits {
         Some(text) => Ok(Some(read_limits(text.as_bytes())?)),
@@ -69,7 +70,7 @@ fn limits_of(wish: &Wish<'_>) -> Result<Option<Limits>, WordsFault> {
     }
 }
 
-// Makes a new repository with these limits and executes the commands of these files.
+// Makes a new repository with these limits, and executes the commands of these files on it.
 fn loaded<'a>(
     rt: &HostRuntime,
     limits: Limits,
@@ -82,7 +83,7 @@ fn loaded<'a>(
     Ok(book)
 }
 
-// PersistsCalls a conversation over a repository.
+// Holds a conversation over a repository, with prompts at a terminal.
 fn converse<'a>(rt: &HostRuntime, book: Book<State>, form: Form) -> Result<(), Stop<'a>> {
     match form_at(rt, form) {
         Form::Lines => Ok(talk_in_lines(rt, book)?),
@@ -106,7 +107,7 @@ fn talk_in_frames(rt: &HostRuntime, book: Book<State>) -> Result<(), FrameFault>
     talk(&mut FramedConversation::new(rt.alloc(), book, reader, rt.stdout()))
 }
 
-// At a terminal, prompts ask for the lines.
+// Returns the wanted form or, if lines are wanted at a terminal, prompts.
 fn form_at(rt: &HostRuntime, wished: Form) -> Form {
     match wished {
         Form::Lines if rt.stdin().is_terminal() && rt.stdout().is_terminal() => Form::Prompts,
@@ -114,7 +115,7 @@ fn form_at(rt: &HostRuntime, wished: Form) -> Form {
     }
 }
 
-// Writes a branch for git.
+// Writes a branch as a stream for git.
 fn export_branch<'a>(
     rt: &HostRuntime,
     book: &Book<State>,

@@ -1,11 +1,11 @@
-//! A conversation with a person: a prompt asks for each line.
+//! A conversation with a person at a terminal: a prompt asks for each line.
 ghost use Rattle.std.specs.Prelude.{◌-◌, ◌^◌};
 
 use camp_talk::{Book, Diagnostic, Dialogue, State, TalkFault, take_step};
 use std::alloc::Global;
 use std::io::{self, BufRead, Read, Write};
 
-/// Text before the first prompt.
+/// The text before the first prompt.
 const GREETING: &[u8] =
     b"camp keeps branches of named patches. help lists the commands, why explains the last fault or refusal; end ends a body, done a group, quit the session.\n";
 
@@ -56,14 +56,14 @@ impl<R: BufRead, W: Write> Dialogue for Prompted<R, W> {
     }
 }
 
-/// The line that is read next.
+/// The kind of the next line.
 #[derive(Clone, Copy, Drop)]
 enum NextLine {
     /// The first line of a command.
     Command,
     /// A further line of a body or a group.
     Inside,
-    /// None, after a line without a line feed.
+    /// None: the input ended after a line without a line feed.
     End,
 }
 
@@ -73,7 +73,7 @@ pub(crate) struct Prompting<R, W> {
     reader: R,
     prompts: W,
     next_line: NextLine,
-    /// The rest of the line that was read last, with its line feed; without one if the input ends after it.
+    /// The unread rest of the last line, with its line feed; without one if the input ends after that line.
     line: Vec<u8>,
 }
 
@@ -89,19 +89,19 @@ impl<R: BufRead, W: Write> Prompting<R, W> {
         prompting
     }
 
-    /// Starts a command.
+    /// Prepares for the first line of a command.
     pub(crate) fn begin(&mut self) {
         self.next_line = NextLine::Command;
     }
 
-    // Shows a text. If this fails, the fault is reported when the next answer can't be written.
+    // Writes a text. If this fails, the error is reported when the next answer can't be written.
     fn show(&mut self, text: &[u8]) {
         if self.prompts.write_all(text).is_ok() {
             let _ = self.prompts.flush();
         }
     }
 
-    // Asks for the next line by a prompt, and reads it. There is none at the end of the input, and at a command `quit`.
+    // Asks for the next line by a prompt, and reads it. Returns none at the end of the input, and for a command `quit`.
     fn ask_line(&mut self) -> io::Result<()> {
         match self.next_line {
             NextLine::Command => self.show(b"camp> "),

@@ -1,4 +1,4 @@
-//! Why the program ends before its input does, and what it says of that.
+//! Why the program ends before its input does, and how it reports that.
 use camp_git::Unexported;
 use camp_kept_talk::PersistenceFault;
 use camp_options::{WordsFault, report_fault, report_unwritten};
@@ -25,7 +25,7 @@ pub(crate) enum Stop<'a> {
     Export(Unexported),
     /// A store was not opened, or its calls were not persisted.
     Store(&'a str, PersistenceFault),
-    /// Another process has the store.
+    /// Another process uses the store.
     InUse(&'a str),
     /// The path of the store is a folder, a device or a pipe; or a file with several hard links, which only a
     /// check accepts.

@@ -15,8 +15,8 @@ use std::alloc::{AllocError, Global};
 use std::fs;
 use std::io::{self, BufRead, ErrorKind, Read, Write};
 
-/// Opens a store, or creates it, with the wanted limits, loads files into it, and then holds a conversation over
-/// it, or writes a branch for git.
+/// Opens a store, or creates it, with the wanted limits, and loads files into it. Then holds a conversation over it, or
+/// writes a branch for git.
 pub(crate) fn hold_stored<'a>(
     rt: &HostRuntime,
     store: &'a str,
@@ -42,7 +42,7 @@ pub(crate) fn hold_stored<'a>(
     }
 }
 
-// PersistsCalls a conversation over a durable repository.
+// Holds a conversation over a durable repository.
 fn converse(
     rt: &HostRuntime,
     kept: DurableRepository<File>,
@@ -77,7 +77,7 @@ fn talk_in_frames(rt: &HostRuntime, kept: DurableRepository<File>) -> Result<(),
     talk(&mut FramedStore::new(rt.alloc(), kept, reader, rt.stdout()))
 }
 
-// PersistsCalls a conversation over a durable repository, with prompts.
+// Holds a conversation over a durable repository, with prompts.
 #[derive(Drop)]
 struct PromptedStore<D: Disk, R, W> {
     alloc: Global,
@@ -107,8 +107,8 @@ impl<D: Disk, R: BufRead, W: Write> Dialogue for PromptedStore<D, R, W> {
     }
 }
 
-// Opens a store, and reports bytes that do not count. A log next to a file that is not a store belongs to
-// somebody else, and is left, unless it was not there before.
+// Opens a store, and reports the length of its torn tail. The log next to a file that is not a store belongs to another
+// program, and is kept, unless it was not there before.
 fn open_store<'a>(
     rt: &HostRuntime,
     store: &'a str,
@@ -134,8 +134,7 @@ fn open_store<'a>(
     Ok(kept)
 }
 
-// Locks the file of a store. The kit puts a log next to it, as SQLite does next to a database; it stays
-// empty.
+// Locks the file of a store. This puts a log next to it, as SQLite does next to a database; the log stays empty.
 fn open_file<'a>(rt: &HostRuntime, store: &'a str) -> Result<File, Stop<'a>> {
     match open(rt, store, Unknown) {
         Ok(files) => Ok(files.db),
@@ -155,7 +154,7 @@ fn has_log<'a>(rt: &HostRuntime, store: &'a str) -> Result<bool, Stop<'a>> {
     Ok(fs::symlink_metadata(rt, log.as_str()).is_ok())
 }
 
-// Removes the log next to a file if it is empty.
+// Removes the log next to a file if the log is empty.
 fn remove_empty_log<'a>(rt: &HostRuntime, store: &'a str) -> Result<(), Stop<'a>> {
     let log = log_beside(rt, store)?;
     if let Ok(found) = fs::symlink_metadata(rt, log.as_str()) {
@@ -166,7 +165,7 @@ fn remove_empty_log<'a>(rt: &HostRuntime, store: &'a str) -> Result<(), Stop<'a>
     Ok(())
 }
 
-// Returns the path of the log of a file. If the file is a link, the log is next to its target.
+// Returns the path of the log of a file: next to the file or, if that is a link, next to its target.
 fn log_beside(rt: &HostRuntime, store: &str) -> Result<String, AllocError> {
     match fs::canonicalize(rt, store) {
         Ok(real) => format!(in rt.alloc(); "{}-wal", real.as_str()),
@@ -174,7 +173,7 @@ fn log_beside(rt: &HostRuntime, store: &str) -> Result<String, AllocError> {
     }
 }
 
-/// Reports the content of a file. Changes nothing.
+/// Reports what a file contains. Changes nothing.
 pub(crate) fn check_store<'a>(rt: &HostRuntime, store: &'a str) -> Result<(), Stop<'a>> {
     check_plain(rt, store)?;
     let bytes = match read_whole(rt, store) {
@@ -202,7 +201,7 @@ pub(crate) fn check_store<'a>(rt: &HostRuntime, store: &'a str) -> Result<(), St
     }
 }
 
-// Rejects a folder, a device or a pipe: it persists nothing, and may have no end.
+// Rejects a folder, a device or a pipe: it can't be a store, and reading it may never end.
 fn check_plain<'a>(rt: &HostRuntime, file: &'a str) -> Result<(), Stop<'a>> {
     match fs::metadata(rt, file) {
         Ok(found) if found.is_file() => Ok(()),

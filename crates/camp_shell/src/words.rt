@@ -9,25 +9,25 @@ use std::convert::AsStr;
 pub(crate) struct Wish<'a> {
     /// The files that are loaded first.
     pub(crate) files: Vec<&'a str>,
-    /// The branch that is written for git, instead of a conversation.
+    /// The branch that is written for git instead of holding a conversation.
     pub(crate) export: Option<&'a str>,
     /// The file in which the repository is persisted.
     pub(crate) store: Option<&'a str>,
-    /// The text of the limits of the repository, if they are given.
+    /// The text given to `--limits`, if any.
     pub(crate) limits: Option<&'a str>,
-    /// The file that is checked, and then nothing else is done.
+    /// The file that is only checked.
     pub(crate) checked: Option<&'a str>,
     pub(crate) form: Form,
 }
 
-/// How commands come and answers go.
+/// How commands are read and answers are written.
 #[derive(Clone, Copy, PartialEq, Eq, Debug)]
 pub(crate) enum Form {
     /// Line by line.
     Lines,
-    /// Line by line, with a prompt for each.
+    /// Line by line, with a prompt for each line.
     Prompts,
-    /// In frames, each of which begins with its number of bytes.
+    /// In frames, each of which begins with the length of its contents in bytes.
     Frames,
 }
 
@@ -96,8 +96,8 @@ More: camp --help has the commands of scripts and their answers, docs/conversati
 docs/tools.md how a program drives camp_shell, docs/git.md the way to git, and docs/questions.md the
 questions.";
 
-/// Reads the words of a command line, of which the first is the program's name. The fault is a mistake in the
-/// words, a request for the help text or the version, or want of memory; it shows as the text for the user.
+/// Parses the words of a command line, of which the first is the program's name. The error is a mistake in the words, a
+/// request for the help text or the version, or out of memory; it displays as the text for the user.
 pub(crate) fn wish_of<'a, S: AsStr>(alloc: Global, words: &'a [S]) -> Result<Wish<'a>, Error> {
     let matches = command(alloc)?.try_get_matches_from(words)?;
     let files = match matches.get_strs("load") {

@@ -4,28 +4,28 @@ use Rattle.std.specs.Int.{to_be_bytes, w32}
 use Rattle.hex.specs.Hex.{encode_lower}
 use Rattle.sha2.specs.Sha256.{sha256}
 
--- the first byte of a block that counts, =
+-- the commit mark of a block that counts, `=`
 abbrev pub open_mark : ℕ
 open_mark = 61
 
--- the first byte of the end of a file, ~
+-- the closed mark, with which the end of a file begins, `~`
 abbrev pub closed_mark : ℕ
 closed_mark = 126
 
--- the digest of no texts
+-- the digest of an empty list of texts
 abbrev pub first_digest : List ℕ
 first_digest = replicate 32 0
 
--- the digest of a text after texts with the digest `before`
+-- the digest of texts and one more; `before` is the digest of those before it
 abbrev pub digest_after : List ℕ → List ℕ → List ℕ
 digest_after before text = sha256 (before ++ text)
 
--- the digest of these texts after texts with the digest `before`
+-- the digest of texts and these; `before` is the digest of those before them
 abbrev pub chain : List ℕ → List (List ℕ) → List ℕ
 chain before [] = before
 chain before (text ∷ texts) = chain (digest_after before text) texts
 
--- LENGTH DIGEST: the length of a text in 8 digits, and the first 8 bytes of its digest in 16, on a line
+-- LENGTH DIGEST: a line with the length of a text in 8 hexadecimal digits, and the first 8 bytes of its digest in 16
 abbrev pub head : List ℕ → List ℕ → List ℕ
 head before text =
     encode_lower (to_be_bytes w32 (length text)) ++ (32 ∷ encode_lower (take 8 (digest_after before text)) ++ 10 ∷ [])
@@ -34,7 +34,7 @@ head before text =
 abbrev pub body : List ℕ → List ℕ → List ℕ
 body before text = head before text ++ text
 
--- a length that 8 digits can express
+-- a length that 8 hexadecimal digits can express
 abbrev pub FitsInBlock : List ℕ → Type 0
 FitsInBlock text = length text < 2 ^ 32
 
@@ -48,7 +48,7 @@ abbrev pub blocks : List ℕ → List (List ℕ) → List ℕ
 blocks before [] = []
 blocks before (text ∷ texts) = open_mark ∷ body before text ++ blocks (digest_after before text) texts
 
--- the bytes begin with the block of this text, whose commit mark is not the closed one, and `rest` follows
+-- bytes begin with the block of this text, whose commit mark says that it counts; `rest` follows
 pub record IsBlock (before text rest bytes : List ℕ) : Type 0 where
   pub mark : ℕ
   pub counts : mark ≢ closed_mark

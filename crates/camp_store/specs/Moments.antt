@@ -4,9 +4,9 @@ use Rattle.camp_store.specs.Logs.{IsBatch, IsBeforeOrAfter, Persists}
 use Rattle.std.specs.Prelude.{◌+◌, ◌-◌, [], ◌∷◌, ◌++◌, drop, ℕ, List, length}
 use Rattle.sqlite_disk.specs.Disk.{Holds, Torn, Follows, Only}
 
--- two properties of files: what a read returns and what a crash may leave
+-- two properties of a file: what a read returns, and what a crash may leave
 module _ {D : Type 0} (seen : D → List ℕ) (may_leave : D → List ℕ → Type 0) where
-  -- a write of n bytes at this offset has begun; after a crash it may be whole, torn or absent
+  -- a write of n bytes at this offset is in progress; after a crash it may be complete, torn or absent
   abbrev pub WriteBegun : ℕ → ℕ → D → D → Type 0
   WriteBegun at n before now = Follows (Torn at n) (may_leave before) (may_leave now)
 
@@ -17,11 +17,11 @@ module _ {D : Type 0} (seen : D → List ℕ) (may_leave : D → List ℕ → Ty
     pub written : Holds (seen now) at bytes
     pub durable : Only (seen now) (may_leave now)
 
-  -- what a crash may leave at each moment of appending a batch
+  -- the moments of appending a batch, with what a crash may leave at each
   pub record EachMoment (old new : List (List ℕ)) (digest bytes : List ℕ) (at : ℕ) (before : D) : Type 0 where
-    -- the bytes after its first mark are being written and synced
+    -- the bytes after the first mark of the batch are being written and synced
     pub staging : (now : D) → WriteBegun (at + 1) (length bytes - 1) before now → (c : List ℕ) → may_leave now c → DecodesTo old c
-    -- they are durable, and the first mark is being written and synced
+    -- those are durable, and the first mark is being written and synced
     pub opening : (staged now : D) → WrittenAndSynced (at + 1) (drop 1 bytes) before staged → WriteBegun at 1 staged now
         → (c : List ℕ) → may_leave now c → IsBeforeOrAfter old new c
     -- the first mark is durable too

@@ -6,7 +6,7 @@ use Rattle.camp_store.specs.declared.faults.StoreFault.{StoreFault}
 use Rattle.camp_store.specs.declared.faults.StoreFault.TheVariants.{Damaged, Disk, Failed, Memory}
 use Rattle.camp_store.specs.declared.readings.Reading.{Reading}
 
--- the file is the blocks of the texts of the reading, and an end; its other fields describe these
+-- the file is the blocks of the texts of a reading, and an end; the other fields of the reading describe these
 pub record IsDecodedFrom (file : List ℕ) (reading : Reading) : Type 0 where
   pub front : List ℕ
   pub end : List ℕ
@@ -18,7 +18,7 @@ pub record IsDecodedFrom (file : List ℕ) (reading : Reading) : Type 0 where
   pub digest_is : reading.digest ≡ chain first_digest (texts_of reading.texts.items)
   pub closed_is : reading.is_closed ≡ is_closed end
 
--- after `count` texts, at the offset `at`, there is neither a block nor an end
+-- after `count` texts, at offset `at`, neither a block nor an end begins
 pub record IsDamaged (count at : ℕ) (file : List ℕ) : Type 0 where
   pub texts : List (List ℕ)
   pub front : List ℕ
@@ -30,24 +30,25 @@ pub record IsDamaged (count at : ℕ) (file : List ℕ) : Type 0 where
   pub no_end : ¬ (IsEnd rest)
   pub no_block : (text after : List ℕ) → ¬ (IsBlock (chain first_digest texts) text after rest)
 
--- damage is reported only of a file that is damaged there
+-- damage is reported only at an offset where the file is damaged
 abbrev pub ReportsDamage : StoreFault → List ℕ → Type 0
 ReportsDamage (Damaged count at) file = IsDamaged count at file
 ReportsDamage other file = Unit {0}
 
--- why bytes are not decoded: memory has run out, or they are damaged
+-- why bytes are not decoded: memory ran out, or they are damaged
 abbrev pub IsDecodeFault : StoreFault → Type 0
 IsDecodeFault Memory = Unit {0}
 IsDecodeFault (Damaged count at) = Unit {0}
 IsDecodeFault other = ⊥
 
--- why a disk is not read: the same. Disk: it has failed now; Failed: it had failed before, and may not be used
+-- why a disk is not read: memory, damage; Disk: a disk call has failed; Failed: one had failed before, so the disk may
+-- not be used
 abbrev pub IsReadingFault : Bool → StoreFault → Type 0
 IsReadingFault usable (Disk error) = Unit {0}
 IsReadingFault usable Failed = usable ≡ false
 IsReadingFault usable other = IsDecodeFault other
 
--- why the bytes of a disk that may be used are not returned: memory has run out, or the disk has failed
+-- why the bytes of a usable disk are not returned: memory ran out, or a disk call has failed
 abbrev pub IsAccessFault : StoreFault → Type 0
 IsAccessFault Memory = Unit {0}
 IsAccessFault (Disk error) = Unit {0}

@@ -8,7 +8,7 @@ use hex::FromHex;
 use sha2::{Digest as _, Sha256};
 use std::alloc::{AllocError, Global};
 
-/// The digest of a chain of texts.
+/// The digest of a list of texts, computed one text after the other.
 pub type Digest = [u8; 32];
 
 /// The commit mark of a block that counts.
@@ -20,7 +20,7 @@ pub(crate) const CLOSED_MARK: u8 = b'~';
 /// The length of a head in bytes: 8 digits, a space, 16 digits, and a line feed.
 pub(crate) const HEAD_LEN: usize = 26;
 
-/// Computes the digest of texts: those with the digest `before`, and this one after them.
+/// Computes the digest of texts and one more; `before` is the digest of those before it.
 pub(crate) fn digest_after(before: &Digest, text: &[u8]) -> Digest
     ensures { result ≡ digest_after before.now text.now }
 {
@@ -54,8 +54,8 @@ fn decode_size(line: &[u8]) -> Option<u32>
     }
 }
 
-/// Encodes the blocks of texts that come after texts with the digest `before`, and a closed mark; also
-/// returns the digest of all.
+/// Encodes the blocks of texts and a closed mark; `before` is the digest of the texts before them. Also returns the
+/// digest of all.
 pub(crate) fn encode(
     alloc: Global,
     before: &Digest,
@@ -81,7 +81,7 @@ pub(crate) fn encode(
     Ok((bytes, digest))
 }
 
-/// A decoded text, its digest, and the bytes after it.
+/// A decoded text, the digest of all texts up to it, and the bytes after it.
 #[derive(Clone, Copy)]
 pub(crate) struct Block<'a> {
     pub(crate) text: &'a [u8],
@@ -89,7 +89,7 @@ pub(crate) struct Block<'a> {
     pub(crate) rest: &'a [u8],
 }
 
-/// Decodes the text at the start of some bytes, with its head, if there is one.
+/// Decodes a text and its head at the start of bytes; `None` if there is no complete one.
 fn first_body<'a>(
     alloc: Global,
     before: &Digest,
@@ -120,7 +120,7 @@ fn first_body<'a>(
     Ok(Some(Block { text, digest, rest }))
 }
 
-/// Decodes the block at the start of some bytes, if there is one.
+/// Decodes the block at the start of bytes; `None` if there is no complete one that counts.
 pub(crate) fn first_block<'a>(
     alloc: Global,
     before: &Digest,
@@ -143,7 +143,7 @@ pub(crate) fn first_block<'a>(
     }
 }
 
-/// True if no block can begin here.
+/// True if no block begins with these bytes.
 pub(crate) fn is_end(bytes: &[u8]) -> bool
     ensures { IsTrue result ↔ IsEnd bytes.now }
 {

@@ -10,7 +10,7 @@ use sqlite_disk::Disk;
 use std::alloc::Global;
 use std::io;
 
-/// Writes bytes and syncs them: they are then durable.
+/// Writes bytes and syncs them. They are durable after `Ok`.
 pub(crate) fn write_and_sync<D: Disk>(disk: &mut D, at: usize, bytes: &[u8]) -> io::Result<()>
     requires usable { IsTrue (D.Disk.is_usable disk.old) }
     requires some { 0 < length bytes.now }

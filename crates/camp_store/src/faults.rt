@@ -11,16 +11,16 @@ use thiserror::Error;
 pub enum StoreFault {
     #[error("out of memory")]
     Memory,
-    /// The error of the disk.
+    /// A disk call has failed, with this error.
     #[error("{0}")]
     Disk(io::Error),
     /// A text has 2^32 bytes or more.
     #[error("a text is too long")]
     TooLong,
-    /// There is no whole block at offset `at`, after `texts` texts, although one begins there.
+    /// A block begins at offset `at`, after `texts` texts, but it is not complete.
     #[error("the text after {texts} others is damaged, at byte {at}")]
     Damaged { texts: usize, at: usize },
-    /// An append or a sync has failed before: the file has to be opened again.
+    /// An append or a sync had failed before: the file has to be opened again.
     #[error("an earlier write to the file has failed")]
     Failed,
 }

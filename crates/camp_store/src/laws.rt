@@ -15,9 +15,8 @@ pub fn damaged_files_do_not_decode()
     ensures law { DamagedFilesDoNotDecode }
 {}
 
-/// Appends are atomic: at each moment of the two writes and the two syncs of
-/// [`Log::append`](crate::Log::append), a crash leaves the texts from before, with all of the batch or none;
-/// after the second sync with all.
+/// Appends are atomic. At each moment of the two writes and two syncs of [`Log::append`](crate::Log::append) a crash
+/// leaves the texts from before, with all of the batch or none of it; after the second sync, with all.
 #[tactic(auto, using(crate::proofs::Batches::each_moment))]
 pub fn batches_are_atomic_at_each_moment<D: Disk>()
     ensures law { BatchesAreAtomic D.Disk.seen D.Disk.may_leave }

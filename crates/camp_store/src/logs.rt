@@ -22,7 +22,7 @@ pub struct Log<D: Disk> {
     has_failed: bool,
 }
 
-// Writes a closed mark after the texts that were read, and syncs it, unless there is one.
+// Writes a closed mark after the texts that were read, unless there is one, and syncs it.
 fn write_closed_mark<D: Disk>(disk: &mut D, reading: &Reading) -> Result<(), StoreFault>
     ensures persists { OnOk result (IsDecodedFrom (D.Disk.seen disk.old) reading.now → Only (D.Disk.seen disk.old) (D.Disk.may_leave disk.old)
         → Persists D.Disk.seen D.Disk.may_leave (texts_of reading.now.texts.items) disk.new reading.now.length reading.now.digest) }
@@ -48,8 +48,7 @@ fn write_closed_mark<D: Disk>(disk: &mut D, reading: &Reading) -> Result<(), Sto
 impl<D: Disk> Log<D> {
     ghost use Rattle.camp_store.specs.Logs.{IsAppendFault, IsAppendable, LeavesLog, PersistsTexts, disk_of, end_offset, may_append};
 
-    /// Opens a file that was read. If there is no closed mark after the texts, writes one; changes nothing
-    /// else.
+    /// Opens a file that was read. Writes a closed mark after the texts if there is none, and changes nothing else.
     pub fn open(mut disk: D, reading: &Reading) -> Result<Log<D>, (StoreFault, D)>
         ensures persists { IfOk result (λ log. IsDecodedFrom (D.Disk.seen disk) reading.now → Only (D.Disk.seen disk) (D.Disk.may_leave disk)
             → PersistsTexts D.Disk.seen D.Disk.may_leave (texts_of reading.now.texts.items) log) }
@@ -58,7 +57,7 @@ impl<D: Disk> Log<D> {
             → (c : List ℕ) → D.Disk.may_leave e.1 c → DecodesTo (texts_of reading.now.texts.items) c) }
         ensures clean { IfOk result (λ log. D.Disk.is_clean (disk_of log) ≡ D.Disk.is_clean disk) }
         ensures clean_err { IfErr result (λ e. D.Disk.is_clean e.1 ≡ D.Disk.is_clean disk) }
-        // The file gets no longer than the texts and the mark.
+        // The file ends at most with the texts and the mark, unless it was longer before.
         ensures long { IfOk result (λ log. Only (D.Disk.seen disk) (D.Disk.may_leave disk)
             → StaysWithin D.Disk.seen D.Disk.may_leave (reading.now.length + 1) disk (disk_of log)) }
         ensures long_err { IfErr result (λ e. Only (D.Disk.seen disk) (D.Disk.may_leave disk)
@@ -100,13 +99,13 @@ impl<D: Disk> Log<D> {
         disk
     }
 
-    /// Appends a batch of texts as a whole. `Ok` acknowledges them: from then on each crash leaves a file
-    /// that has them. If memory runs out or a text is too long, nothing has changed; after any other `Err`
-    /// nothing more is persisted here, and the file has to be opened again.
+    /// Appends a batch of texts atomically. `Ok` acknowledges them: each crash from then on leaves a file with all of
+    /// them. After out of memory, or for a text that is too long, nothing has changed. After any other error nothing
+    /// more is persisted, and the file has to be opened again.
     pub fn append(&mut self, alloc: Global, texts: &[Vec<u8>]) -> Result<(), StoreFault>
         ensures acknowledged { (old : List (List ℕ)) → PersistsTexts D.Disk.seen D.Disk.may_leave old self.old
             → OnOk result (PersistsTexts D.Disk.seen D.Disk.may_leave (old ++ texts_of texts.now) self.new) }
-        // A crash leaves the texts from before the call, with all of the new ones or none.
+        // A crash leaves the texts from before the call, with all of the new ones or none of them.
         ensures crash { (old : List (List ℕ)) → PersistsTexts D.Disk.seen D.Disk.may_leave old self.old
             → (c : List ℕ) → D.Disk.may_leave (disk_of self.new) c → IsBeforeOrAfter old (texts_of texts.now) c }
         ensures long { (old : List (List ℕ)) → PersistsTexts D.Disk.seen D.Disk.may_leave old self.old
@@ -142,8 +141,8 @@ impl<D: Disk> Log<D> {
     }
 }
 
-// Writes the blocks of a batch after the closed mark at an offset. All are durable before the first mark is
-// opened, so they count all at once.
+// Writes the blocks of a batch after the closed mark, which is at this offset. The closed mark is replaced last, when
+// all blocks are durable, so they all begin to count at once.
 fn write_batch<D: Disk>(disk: &mut D, at: usize, bytes: &[u8]) -> io::Result<()>
     requires usable { IsTrue (D.Disk.is_usable disk.old) }
     requires some { 1 < length bytes.now }

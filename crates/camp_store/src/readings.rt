@@ -9,7 +9,7 @@ use crate::disks::read_all;
 use crate::{Disk, StoreFault};
 use std::alloc::Global;
 
-/// The decoded content of a file.
+/// The decoded contents of a file.
 #[derive(Drop)]
 pub struct Reading {
     /// The texts, in order.
@@ -56,7 +56,7 @@ pub fn decode(alloc: Global, bytes: &[u8]) -> Result<Reading, StoreFault>
     })
 }
 
-/// Reads and decodes a file. Changes nothing, and what it has read is durable.
+/// Reads and decodes a file. Writes nothing; what it returns is durable.
 pub fn read<D: Disk>(alloc: Global, disk: &mut D) -> Result<Reading, StoreFault>
     ensures usable { IfOk result (λ _. IsTrue (D.Disk.is_usable disk.new)) }
     ensures reading { IfOk result (λ reading. IsTrue (D.Disk.is_clean disk.new) → IsDecodedFrom (D.Disk.seen disk.old) reading) }

@@ -35,7 +35,7 @@ position-at_end p bytes =
 same_byte : (byte : ℕ) → (byte == byte) ≡ true
 same_byte byte = (Decides-eqb byte byte).1 refl
 
--- the first mark stands behind what has none
+-- the first mark comes after the bytes that have none
 place_of_mark : (mark : ℕ) (bytes rest : List ℕ) → has_no mark bytes ≡ true → position_or_len (λ byte. byte == mark) (bytes ++ mark ∷ rest) ≡ length bytes
 place_of_mark mark [] rest none = cond-false _ _ _ (ap not (same_byte mark))
 place_of_mark mark (byte ∷ bytes) rest none =

@@ -9,16 +9,16 @@ use Rattle.camp_stream.specs.StreamValues.{ItemValue, Bare, Data, Delete, Mark, 
 use Rattle.camp_stream.specs.declared.items.BareItem.TheVariants.{Blob, Checkpoint, DeleteAll, Done}
 use Rattle.camp_stream.specs.declared.items.TextItem.TheVariants as text
 
--- the bytes of an item that may be there
+-- the bytes of an optional item
 abbrev pub optional_item : (List ℕ → ItemValue) → Option (List ℕ) → List ℕ
 optional_item item None = []
 optional_item item (Some line) = item_text (item line)
 
--- the bytes of data, with an empty line after it
+-- the bytes of data and of the empty line after it
 abbrev pub data_item_bytes : List ℕ → List ℕ
 data_item_bytes bytes = item_text (Data bytes) ++ newline ∷ []
 
--- the item of a change
+-- the item that represents a change
 abbrev pub change_item : ChangeValue → ItemValue
 change_item (SetEntry mode content path) = Modify mode content path
 change_item (DeleteEntry path) = Delete path
@@ -37,14 +37,14 @@ unfoldable pub blob_text : BlobValue → List ℕ
 blob_text blob =
     item_text (Bare Blob) ++ optional_item Mark blob.mark ++ optional_item (Text text.OriginalOid) blob.original_oid ++ data_item_bytes blob.content
 
--- the bytes of what describes a commit
+-- the bytes of the items that describe a commit
 unfoldable pub description_text : CommitValue → List ℕ
 description_text commit =
     optional_item Mark commit.mark ++ optional_item (Text text.OriginalOid) commit.original_oid
     ++ optional_item (Text text.Author) commit.author ++ item_text (Text text.Committer commit.committer)
     ++ optional_item (Text text.Encoding) commit.encoding ++ data_item_bytes commit.message
 
--- the bytes of the parents and changes of a commit, and an empty line
+-- the bytes of the parents and the changes of a commit, and of the empty line after them
 unfoldable pub contents_text : CommitValue → List ℕ
 contents_text commit =
     optional_item (Text text.From) commit.from ++ flat_map merge_text commit.merges ++ flat_map file_change_bytes commit.changes ++ newline ∷ []
@@ -53,7 +53,7 @@ contents_text commit =
 unfoldable pub commit_text : CommitValue → List ℕ
 commit_text commit = item_text (Text text.Commit commit.reference) ++ description_text commit ++ contents_text commit
 
--- the bytes of a reset, and an empty line
+-- the bytes of a reset and of the empty line after it
 unfoldable pub reset_text : ResetValue → List ℕ
 reset_text reset = item_text (Text text.Reset reset.reference) ++ optional_item (Text text.From) reset.from ++ newline ∷ []
 
@@ -75,17 +75,17 @@ stream_command_bytes (OptionCommand line) = item_text (Text text.Option line)
 stream_command_bytes CheckpointCommand = item_text (Bare Checkpoint) ++ newline ∷ []
 stream_command_bytes DoneCommand = item_text (Bare Done)
 
--- an item that may be there can be written
+-- an optional item is absent or can be written
 abbrev pub IsWritableIfAny : (List ℕ → ItemValue) → Option (List ℕ) → Type 0
 IsWritableIfAny item line = IfSome line (λ line. IsWritable (item line))
 
--- a content that can be written
+-- a content can be written
 pub record IsWritableBlob (blob : BlobValue) : Type 0 where
   pub mark : IsWritableIfAny Mark blob.mark
   pub original_oid : IsWritableIfAny (Text text.OriginalOid) blob.original_oid
   pub content : IsWritable (Data blob.content)
 
--- a commit that can be written
+-- a commit can be written
 pub record IsWritableCommit (commit : CommitValue) : Type 0 where
   pub reference : IsWritable (Text text.Commit commit.reference)
   pub mark : IsWritableIfAny Mark commit.mark
@@ -98,12 +98,12 @@ pub record IsWritableCommit (commit : CommitValue) : Type 0 where
   pub merges : AllByRecursion (λ parent. IsWritable (Text text.Merge parent)) commit.merges
   pub changes : AllByRecursion (λ change. IsWritable (change_item change)) commit.changes
 
--- a reset that can be written
+-- a reset can be written
 pub record IsWritableReset (reset : ResetValue) : Type 0 where
   pub reference : IsWritable (Text text.Reset reset.reference)
   pub from : IsWritableIfAny (Text text.From) reset.from
 
--- a tag that can be written
+-- a tag can be written
 pub record IsWritableTag (tag : TagValue) : Type 0 where
   pub name : IsWritable (Text text.Tag tag.name)
   pub mark : IsWritableIfAny Mark tag.mark
@@ -112,7 +112,7 @@ pub record IsWritableTag (tag : TagValue) : Type 0 where
   pub tagger : IsWritableIfAny (Text text.Tagger) tag.tagger
   pub message : IsWritable (Data tag.message)
 
--- a command that can be written: its texts are in one line, and what they have to be
+-- a command can be written: each of its texts is on one line and has the form that its item needs
 abbrev pub IsWritableCommand : CommandValue → Type 0
 IsWritableCommand (BlobCommand blob) = IsWritableBlob blob
 IsWritableCommand (CommitCommand commit) = IsWritableCommit commit
@@ -124,13 +124,13 @@ IsWritableCommand (OptionCommand line) = IsWritable (Text text.Option line)
 IsWritableCommand CheckpointCommand = Unit {0}
 IsWritableCommand DoneCommand = Unit {0}
 
--- what is read of a command that was written is that command, and all that follows it is left
+-- reading the bytes of a command that can be written gives that command, and leaves all bytes after it
 abbrev pub CommandsComeBack : Type 0
 CommandsComeBack =
     (command : CommandValue) (rest : List ℕ) → IsWritableCommand command
     → command_at (stream_command_bytes command ++ rest) ≡ Ok (command, rest)
 
--- a command that can be written, and does not end the stream
+-- a command can be written and does not end the stream
 abbrev pub IsWritableInside : CommandValue → Type 0
 IsWritableInside command = IsWritableCommand command × (unless_done command ≡ Some command)
 
@@ -138,7 +138,7 @@ IsWritableInside command = IsWritableCommand command × (unless_done command ≡
 abbrev pub stream_text : List CommandValue → List ℕ
 stream_text commands = flat_map stream_command_bytes commands
 
--- what is read of commands that were written is these commands
+-- reading the bytes of commands that can be written gives these commands
 abbrev pub StreamsComeBack : Type 0
 StreamsComeBack =
     (commands : List CommandValue) → AllByRecursion IsWritableInside commands → stream_at (stream_text commands) ≡ Ok (commands, [])

@@ -1,4 +1,4 @@
--- Commands of a stream, without where they lie in it.
+-- Commands of a stream as values, whose texts are copied out of it.
 use Rattle.std.specs.Prelude.{ℕ, List, map, Option, option_map}
 use Rattle.std.specs.Borrow.{Bor}
 use Rattle.camp_coding.specs.declared.modes.Mode.{Mode}
@@ -11,13 +11,13 @@ use Rattle.camp_stream.specs.declared.commands.FileChange.TheVariants as change
 use Rattle.camp_stream.specs.declared.commands.Reset.{Reset}
 use Rattle.camp_stream.specs.declared.commands.Tag.{Tag}
 
--- a change of the entries of a commit: an entry is set; a file or folder is deleted; all are deleted
+-- a change of the entries of a commit: sets an entry, deletes a file or folder, or deletes all entries
 pub data ChangeValue : Type 0 where
   SetEntry : Mode → (content path : List ℕ) → ChangeValue
   DeleteEntry : List ℕ → ChangeValue
   DeleteEntries : ChangeValue
 
--- a content
+-- a blob: its mark, its id and its content
 pub record BlobValue : Type 0 where
   pub mark : Option (List ℕ)
   pub original_oid : Option (List ℕ)
@@ -36,7 +36,7 @@ pub record CommitValue : Type 0 where
   pub merges : List (List ℕ)
   pub changes : List ChangeValue
 
--- a reference that is set to a commit, or is to begin anew
+-- a reset: a reference is set to a commit, or begins anew
 pub record ResetValue : Type 0 where
   pub reference : List ℕ
   pub from : Option (List ℕ)
@@ -62,30 +62,30 @@ pub data CommandValue : Type 0 where
   CheckpointCommand : CommandValue
   DoneCommand : CommandValue
 
--- a text of the stream that may be there
+-- an optional text of the stream, as a value
 abbrev pub text_value : Option (Bor (List ℕ)) → Option (List ℕ)
 text_value text = option_map (λ text. text.now) text
 
--- texts of the stream
+-- texts of the stream, as values
 abbrev pub text_values : List (Bor (List ℕ)) → List (List ℕ)
 text_values texts = map (λ text. text.now) texts
 
--- a change, without where it lies in the stream
+-- a change, as a value
 abbrev pub value_of_change : FileChange → ChangeValue
 value_of_change (change.Set mode content path) = SetEntry mode content.now path.now
 value_of_change (change.Delete path) = DeleteEntry path.now
 value_of_change change.DeleteAll = DeleteEntries
 
--- changes, without where they lie in the stream
+-- changes, as values
 abbrev pub change_values : List FileChange → List ChangeValue
 change_values changes = map value_of_change changes
 
--- a content, without where it lies in the stream
+-- a blob, as a value
 abbrev pub value_of_blob : Blob → BlobValue
 value_of_blob blob =
     record { mark = text_value blob.mark; original_oid = text_value blob.original_oid; content = blob.content.now }
 
--- a commit, without where it lies in the stream
+-- a commit, as a value
 abbrev pub value_of_commit : Commit → CommitValue
 value_of_commit commit =
     record {
@@ -101,11 +101,11 @@ value_of_commit commit =
       changes = change_values commit.changes.items;
     }
 
--- a reset, without where it lies in the stream
+-- a reset, as a value
 abbrev pub value_of_reset : Reset → ResetValue
 value_of_reset reset = record { reference = reset.reference.now; from = text_value reset.from }
 
--- a tag, without where it lies in the stream
+-- a tag, as a value
 abbrev pub value_of_tag : Tag → TagValue
 value_of_tag tag =
     record {
@@ -117,7 +117,7 @@ value_of_tag tag =
       message = tag.message.now;
     }
 
--- a command, without where it lies in the stream
+-- a command, as a value
 abbrev pub value_of_command : Command → CommandValue
 value_of_command (command.Blob blob) = BlobCommand (value_of_blob blob)
 value_of_command (command.Commit commit) = CommitCommand (value_of_commit commit)
@@ -129,6 +129,6 @@ value_of_command (command.Option text) = OptionCommand text.now
 value_of_command command.Checkpoint = CheckpointCommand
 value_of_command command.Done = DoneCommand
 
--- commands, without where they lie in the stream
+-- commands, as values
 abbrev pub command_values : List Command → List CommandValue
 command_values commands = map value_of_command commands

@@ -1,4 +1,4 @@
--- Commands of a stream as bytes, and the first command of bytes or its fault.
+-- Reading commands: the first command in bytes and the bytes after it, or the first fault.
 use Rattle.std.specs.Prelude.{◌≡◌, ℕ, zero, suc, ◌+◌, ◌-◌, ◌==◌, if◌then◌else◌, List, [], ◌∷◌, length, take, Option, None, Some, Result, Ok, Err, bytes_eq}
 use Rattle.std.specs.List.{count_by}
 use Rattle.camp_base.specs.Results.{◌>>=◌}
@@ -16,24 +16,24 @@ use Rattle.camp_stream.specs.declared.items.StreamFaultKind.TheVariants.{Misplac
 use Rattle.camp_stream.specs.declared.items.TextItem.{TextItem}
 use Rattle.camp_stream.specs.declared.items.TextItem.TheVariants as text
 
--- a value and the bytes after it, or the first fault
+-- a value that was read and the bytes after it, or a fault
 abbrev pub ReadResult : Type 0 → Type 0
 ReadResult A = Result (A × List ℕ) StreamFault
 
--- a fault of the item at the front of these bytes
+-- a fault of the item at the start of these bytes
 abbrev pub item_fault : StreamFaultKind → List ℕ → StreamFault
 item_fault kind bytes = record { kind = kind; left = length bytes }
 
--- an item, or its fault with its place
+-- an item, or its fault with the number of bytes that are left
 abbrev pub located : List ℕ → Result ItemAndRest StreamFaultKind → ReadResult ItemValue
 located bytes (Ok found) = Ok found
 located bytes (Err kind) = Err (item_fault kind bytes)
 
--- the first item
+-- the item at the start of bytes, and the bytes after it
 unfoldable pub first_item : List ℕ → ReadResult ItemValue
 first_item bytes = located bytes (item_at bytes)
 
--- the text of an item that is this word and a text
+-- the text of an item if its word is this one
 abbrev pub text_if : TextItem → ItemValue → Option (List ℕ)
 text_if wanted Blank = None
 text_if wanted (Bare item) = None
@@ -43,7 +43,7 @@ text_if wanted (Data bytes) = None
 text_if wanted (Modify mode content path) = None
 text_if wanted (Delete path) = None
 
--- the mark of an item that is one
+-- the mark of an item, if it has one
 abbrev pub mark_if : ItemValue → Option (List ℕ)
 mark_if Blank = None
 mark_if (Bare item) = None
@@ -53,7 +53,7 @@ mark_if (Data bytes) = None
 mark_if (Modify mode content path) = None
 mark_if (Delete path) = None
 
--- the bytes of an item that is data
+-- the bytes of an item, if it is data
 abbrev pub data_if : ItemValue → Option (List ℕ)
 data_if Blank = None
 data_if (Bare item) = None
@@ -63,7 +63,7 @@ data_if (Data bytes) = Some bytes
 data_if (Modify mode content path) = None
 data_if (Delete path) = None
 
--- an item that is an empty line
+-- whether an item is an empty line
 abbrev pub blank_if : ItemValue → Option (Unit {0})
 blank_if Blank = Some tt
 blank_if (Bare item) = None
@@ -73,14 +73,14 @@ blank_if (Data bytes) = None
 blank_if (Modify mode content path) = None
 blank_if (Delete path) = None
 
--- all entries are deleted, if the word says so
+-- the change that a word alone makes: `deleteall` deletes all entries
 abbrev pub bare_change_if : BareItem → Option ChangeValue
 bare_change_if Blob = None
 bare_change_if DeleteAll = Some DeleteEntries
 bare_change_if Checkpoint = None
 bare_change_if Done = None
 
--- the change of an item that is one of a commit's entries
+-- the change that an item makes, if it is one of a commit's entries
 abbrev pub change_if : ItemValue → Option ChangeValue
 change_if Blank = None
 change_if (Bare item) = bare_change_if item
@@ -90,48 +90,48 @@ change_if (Data bytes) = None
 change_if (Modify mode content path) = Some (SetEntry mode content path)
 change_if (Delete path) = Some (DeleteEntry path)
 
--- an item that may be there: it is read if it was wanted
+-- an optional item, given the value that was made from it: without a value it is not read
 abbrev pub item_if_wanted : {A : Type 0} → Option A → (bytes rest : List ℕ) → ReadResult (Option A)
 item_if_wanted None bytes rest = Ok (None, bytes)
 item_if_wanted (Some value) bytes rest = Ok (Some value, rest)
 
--- the next item, if there is one and it is wanted; else nothing is read
+-- an optional item: the next one, if `wanted` makes a value of it
 unfoldable pub optional : {A : Type 0} → (ItemValue → Option A) → List ℕ → ReadResult (Option A)
 optional wanted bytes =
     if length bytes == 0 then Ok (None, bytes)
     else first_item bytes >>= λ found. item_if_wanted (wanted found.0) bytes found.1
 
--- an item that has to be there
+-- a required item, given the value that was made from it: without a value it is misplaced
 abbrev pub must_be_wanted : {A : Type 0} → Option A → (bytes rest : List ℕ) → ReadResult A
 must_be_wanted None bytes rest = Err (item_fault Misplaced bytes)
 must_be_wanted (Some value) bytes rest = Ok (value, rest)
 
--- the next item, which has to be wanted
+-- a required item: the next one, of which `wanted` must make a value
 unfoldable pub required : {A : Type 0} → (ItemValue → Option A) → List ℕ → ReadResult A
 required wanted bytes = first_item bytes >>= λ found. must_be_wanted (wanted found.0) bytes found.1
 
--- a value before others that are read after it; with none there are no others
+-- a value and those read after it; without a value nothing more is read
 abbrev pub with_others : {A : Type 0} → Option A → List ℕ → ReadResult (List A) → ReadResult (List A)
 with_others None rest others = Ok ([], rest)
 with_others (Some value) rest others = others >>= λ more. Ok (value ∷ more.0, more.1)
 
--- values one after another, at most this many, up to the first that is not there
+-- values read one after another, up to the first that is absent, at most this many
 unfoldable pub many : {A : Type 0} → (List ℕ → ReadResult (Option A)) → ℕ → List ℕ → ReadResult (List A)
 many read zero bytes = Ok ([], bytes)
 many read (suc count) bytes = read bytes >>= λ found. with_others found.0 found.1 (many read count found.1)
 
--- the text of the next item, if it is this word and a text
+-- the text of the next item if its word is this one, else none
 abbrev pub optional_text : TextItem → List ℕ → ReadResult (Option (List ℕ))
 optional_text item bytes = optional (text_if item) bytes
 
--- data, and an empty line after it if there is one
+-- required data, and an optional empty line after it
 unfoldable pub data_at : List ℕ → ReadResult (List ℕ)
 data_at bytes = do
   found ← required data_if bytes
   blank ← optional blank_if found.1
   Ok (found.0, blank.1)
 
--- a content, after `blob`
+-- a blob, read after `blob`
 unfoldable pub blob_at : List ℕ → ReadResult BlobValue
 blob_at bytes = do
   mark ← optional mark_if bytes
@@ -139,15 +139,15 @@ blob_at bytes = do
   content ← data_at id.1
   Ok (record { mark = mark.0; original_oid = id.0; content = content.0 }, content.1)
 
--- the merges of a commit
+-- the merges of a commit, up to the first item that is none
 unfoldable pub merges_at : List ℕ → ReadResult (List (List ℕ))
 merges_at bytes = many (optional_text text.Merge) (length bytes) bytes
 
--- the changes of a commit
+-- the changes of a commit, up to the first item that is none
 unfoldable pub changes_at : List ℕ → ReadResult (List ChangeValue)
 changes_at bytes = many (optional change_if) (length bytes) bytes
 
--- a commit, after `commit` and its reference: mark, id, author, committer, encoding, message, parents, changes
+-- a commit, read after `commit` and its reference: mark, id, author, committer, encoding, message, parents and changes
 unfoldable pub commit_at : List ℕ → List ℕ → ReadResult CommitValue
 commit_at reference bytes = do
   mark ← optional mark_if bytes
@@ -176,14 +176,14 @@ commit_at reference bytes = do
     blank.1,
   )
 
--- a reset, after `reset` and its reference
+-- a reset, read after `reset` and its reference
 unfoldable pub reset_at : List ℕ → List ℕ → ReadResult ResetValue
 reset_at reference bytes = do
   from ← optional_text text.From bytes
   blank ← optional blank_if from.1
   Ok (record { reference = reference; from = from.0 }, blank.1)
 
--- a tag, after `tag` and its name
+-- a tag, read after `tag` and its name
 unfoldable pub tag_at : List ℕ → List ℕ → ReadResult TagValue
 tag_at name bytes = do
   mark ← optional mark_if bytes
@@ -193,15 +193,15 @@ tag_at name bytes = do
   message ← data_at tagger.1
   Ok (record { name = name; mark = mark.0; from = from.0; original_oid = id.0; tagger = tagger.0; message = message.0 }, message.1)
 
--- a command of one item, and an empty line after it if there is one
+-- a command of one item, with an optional empty line after it
 unfoldable pub short_command : CommandValue → List ℕ → ReadResult CommandValue
 short_command command bytes = optional blank_if bytes >>= λ blank. Ok (command, blank.1)
 
--- what was read, as a command
+-- turns what was read into a command
 abbrev pub as_command : {A : Type 0} → (A → CommandValue) → ReadResult A → ReadResult CommandValue
 as_command command reading = reading >>= λ found. Ok (command found.0, found.1)
 
--- the command that begins with a word and a text, in bytes that begin with it
+-- a command whose first item is a word and a text, read from bytes that begin with that item
 abbrev pub text_command : TextItem → List ℕ → (bytes rest : List ℕ) → ReadResult CommandValue
 text_command text.Commit line bytes rest = as_command CommitCommand (commit_at line rest)
 text_command text.Tag line bytes rest = as_command TagCommand (tag_at line rest)
@@ -217,14 +217,14 @@ text_command text.Progress line bytes rest = short_command (ProgressCommand line
 text_command text.Feature line bytes rest = Ok (FeatureCommand line, rest)
 text_command text.Option line bytes rest = Ok (OptionCommand line, rest)
 
--- the command that begins with a word alone, in bytes that begin with it
+-- a command whose first item is a word alone, read from bytes that begin with that item
 abbrev pub bare_command : BareItem → (bytes rest : List ℕ) → ReadResult CommandValue
 bare_command Blob bytes rest = as_command BlobCommand (blob_at rest)
 bare_command DeleteAll bytes rest = Err (item_fault Misplaced bytes)
 bare_command Checkpoint bytes rest = short_command CheckpointCommand rest
 bare_command Done bytes rest = Ok (DoneCommand, rest)
 
--- the command that begins with an item, in bytes that begin with it
+-- a command, given its first item, read from bytes that begin with that item
 abbrev pub command_from : ItemValue → (bytes rest : List ℕ) → ReadResult CommandValue
 command_from Blank bytes rest = Err (item_fault Misplaced bytes)
 command_from (Bare item) bytes rest = bare_command item bytes rest
@@ -238,7 +238,7 @@ command_from (Delete path) bytes rest = Err (item_fault Misplaced bytes)
 unfoldable pub command_at : List ℕ → ReadResult CommandValue
 command_at bytes = first_item bytes >>= λ found. command_from found.0 bytes found.1
 
--- a command, unless it is the one that ends the stream
+-- a command, or none if it is `done`
 abbrev pub unless_done : CommandValue → Option CommandValue
 unless_done (BlobCommand blob) = Some (BlobCommand blob)
 unless_done (CommitCommand commit) = Some (CommitCommand commit)
@@ -250,26 +250,26 @@ unless_done (OptionCommand line) = Some (OptionCommand line)
 unless_done CheckpointCommand = Some CheckpointCommand
 unless_done DoneCommand = None
 
--- the next command, if the stream does not end here
+-- the next command; none at the end of the bytes or at `done`
 unfoldable pub next_command : List ℕ → ReadResult (Option CommandValue)
 next_command bytes =
     if length bytes == 0 then Ok (None, bytes)
     else command_at bytes >>= λ found. Ok (unless_done found.0, found.1)
 
--- the commands of a stream up to its end or to `done`, and the bytes after that; or the first fault
+-- the commands of a stream, up to its end or to `done`, and the bytes after that; or the first fault
 unfoldable pub stream_at : List ℕ → ReadResult (List CommandValue)
 stream_at bytes = many next_command (length bytes) bytes
 
--- reading ended without memory, or with this fault
+-- an error: out of memory, or the fault that reading gives
 abbrev pub FailsToRead : {A : Type 0} → ReadError → Result A StreamFault → Type 0
 FailsToRead error.Memory reading = Unit {0}
 FailsToRead (error.Fault fault) reading = reading ≡ Err fault
 
--- what was returned, seen by a view, is what reading gives, unless memory ran out
+-- the result is what reading gives, compared as values, or out of memory
 abbrev pub ReadsTo : {X A : Type 0} → (X → A) → Result X ReadError → Result A StreamFault → Type 0
 ReadsTo view (Ok found) reading = reading ≡ Ok (view found)
 ReadsTo view (Err problem) reading = FailsToRead problem reading
 
--- the line, counted from 1, of what begins where this many bytes are left of a stream
+-- the line number, counted from 1, of the bytes of a stream of which this many are left
 abbrev pub line_at_rest : List ℕ → ℕ → ℕ
 line_at_rest stream left = count_by (λ byte. byte == newline) (take (length stream - left) stream) + 1

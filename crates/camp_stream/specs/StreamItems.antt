@@ -1,4 +1,4 @@
--- Items of a stream as bytes, and the first item of bytes or its fault.
+-- Reading and writing items: the first item in bytes and the bytes after it, or its fault.
 use Rattle.std.specs.Prelude.{◌≡◌, ℕ, ◌+◌, ◌-◌, ◌*◌, ◌<◌, ◌^◌, Bool, true, false, not, ◌&&◌, ◌==◌, if◌then◌else◌, nat_lt, nat_le, List, [], ◌∷◌, ◌++◌, length, take, drop, fold, Option, None, Some, Result, Ok, Err, bytes_eq, codes}
 use Rattle.std.specs.Borrow.{Bor}
 use Rattle.std.specs.Fmt.{decimal}
@@ -23,7 +23,7 @@ bare_word DeleteAll = codes "deleteall"
 bare_word Checkpoint = codes "checkpoint"
 bare_word Done = codes "done"
 
--- the item that is this word alone
+-- the item that consists of this word alone, if there is one
 abbrev pub bare_item : List ℕ → Option BareItem
 bare_item word =
     if bytes_eq word (codes "blob") then Some Blob
@@ -31,7 +31,7 @@ bare_item word =
     else (if bytes_eq word (codes "checkpoint") then Some Checkpoint
     else (if bytes_eq word (codes "done") then Some Done else None)))
 
--- the word of an item that is a word and a text
+-- the word of an item that has a word and a text
 abbrev pub text_word : TextItem → List ℕ
 text_word text.Commit = codes "commit"
 text_word text.Tag = codes "tag"
@@ -47,7 +47,7 @@ text_word text.Progress = codes "progress"
 text_word text.Feature = codes "feature"
 text_word text.Option = codes "option"
 
--- the item that is this word and a text, if it describes a commit or a tag
+-- the item with this word and a text that describes a commit or a tag, if there is one
 abbrev pub described_item : List ℕ → Option TextItem
 described_item word =
     if bytes_eq word (codes "original-oid") then Some text.OriginalOid
@@ -58,7 +58,7 @@ described_item word =
     else (if bytes_eq word (codes "from") then Some text.From
     else (if bytes_eq word (codes "merge") then Some text.Merge else None))))))
 
--- the item that is this word and a text
+-- the item with this word and a text, if there is one
 abbrev pub text_item : List ℕ → Option TextItem
 text_item word =
     if bytes_eq word (codes "commit") then Some text.Commit
@@ -68,31 +68,31 @@ text_item word =
     else (if bytes_eq word (codes "feature") then Some text.Feature
     else (if bytes_eq word (codes "option") then Some text.Option else described_item word)))))
 
--- the bytes before the first one that is a mark, and those after it
+-- the bytes before the first one that equals `mark`, and those after it; none if no byte does
 abbrev pub cut_at : ℕ → List ℕ → Option (List ℕ × List ℕ)
 cut_at mark bytes =
     let len = position_or_len (λ byte. byte == mark) bytes in
     if nat_lt len (length bytes) then Some (take len bytes, drop (len + 1) bytes) else None
 
--- what is read next where there is a value, or where there is none
+-- continues with a value, if there is one, else with another result
 abbrev pub read_or : {A B : Type 0} → Option A → Result B StreamFaultKind → (A → Result B StreamFaultKind) → Result B StreamFaultKind
 read_or None otherwise next = otherwise
 read_or (Some found) otherwise next = next found
 
--- the number that decimal digits spell
+-- the value of decimal digits
 abbrev pub decimal_value : List ℕ → ℕ
 decimal_value digits = fold (λ value digit. value * 10 + (digit - digit_zero)) 0 digits
 
--- `:` and decimal digits
+-- whether a text is `:` and decimal digits
 abbrev pub is_mark : List ℕ → Bool
 is_mark [] = false
 is_mark (colon ∷ digits) = colon == 58 && (not (length digits == 0) && list_all is_digit digits)
 
--- 1 to 10 decimal digits
+-- whether a text is 1 to 10 decimal digits
 abbrev pub is_data_length : List ℕ → Bool
 is_data_length text = is_between 1 10 (length text) && list_all is_digit text
 
--- the mode that has these digits, as `git fast-import` takes them
+-- the mode with these digits, in the forms that `git fast-import` accepts
 abbrev pub mode_of_digits : List ℕ → Option Mode
 mode_of_digits digits =
     if bytes_eq digits (codes "100644") then Some Regular
@@ -102,15 +102,15 @@ mode_of_digits digits =
     else (if bytes_eq digits (codes "120000") then Some Symlink
     else (if bytes_eq digits (codes "160000") then Some Submodule else None)))))
 
--- an item, and the bytes after it
+-- an item and the bytes after it
 abbrev pub ItemAndRest : Type 0
 ItemAndRest = ItemValue × List ℕ
 
--- `mark :N`
+-- the item of a line `mark :N`
 abbrev pub mark_item : List ℕ → List ℕ → Result ItemAndRest StreamFaultKind
 mark_item text rest = if is_mark text then Ok (Mark text, rest) else Err BadMark
 
--- `data N`, and N bytes
+-- the item of a line `data N` and the N bytes after it
 abbrev pub data_item : List ℕ → List ℕ → Result ItemAndRest StreamFaultKind
 data_item text rest =
     if is_data_length text then
@@ -118,14 +118,14 @@ data_item text rest =
     else Err CutOff)
     else Err BadLength
 
--- `M MODE CONTENT PATH`
+-- the item of a line `M MODE CONTENT PATH`
 abbrev pub modify_item : List ℕ → List ℕ → Result ItemAndRest StreamFaultKind
 modify_item text rest =
     read_or (cut_at space text) (Err BadModify) (λ first.
     read_or (mode_of_digits first.0) (Err BadMode) (λ mode.
     read_or (cut_at space first.1) (Err BadModify) (λ second. Ok (Modify mode second.0 second.1, rest))))
 
--- the item of a line with this first word, and this text after it
+-- the item of a line with this first word and this text after it
 abbrev pub word_item : List ℕ → List ℕ → List ℕ → Result ItemAndRest StreamFaultKind
 word_item word text rest =
     if bytes_eq word (codes "M") then modify_item text rest
@@ -141,7 +141,7 @@ abbrev pub spaced_item : List ℕ → List ℕ → List ℕ → Result ItemAndRe
 spaced_item word text rest =
     read_or (text_item word) (word_item word text rest) (λ item. Ok (Text item text, rest))
 
--- the item of a line
+-- the item of a line, with the bytes after the line
 abbrev pub line_item : List ℕ → List ℕ → Result ItemAndRest StreamFaultKind
 line_item line rest =
     if length line == 0 then Ok (Blank, rest)
@@ -149,11 +149,11 @@ line_item line rest =
     (read_or (cut_at space line) (Err UnknownCommand) (λ parts. spaced_item parts.0 parts.1 rest))
     (λ item. Ok (Bare item, rest))
 
--- the first item of a stream and the bytes after it, or its fault
+-- the first item of bytes and the bytes after it, or its fault
 abbrev pub item_at : List ℕ → Result ItemAndRest StreamFaultKind
 item_at bytes = read_or (cut_at newline bytes) (Err CutOff) (λ parts. line_item parts.0 parts.1)
 
--- an item was read, or the fault was found
+-- the result is the item that was read, or its fault
 abbrev pub GivesItem : Result (StreamItem × Bor (List ℕ)) StreamFaultKind → Result ItemAndRest StreamFaultKind → Type 0
 GivesItem (Ok found) reading = reading ≡ Ok (value_of_item found.0, found.1.now)
 GivesItem (Err fault) reading = reading ≡ Err fault
@@ -168,11 +168,11 @@ item_text (Data bytes) = codes "data " ++ decimal (length bytes) ++ newline ∷ 
 item_text (Modify mode content path) = codes "M " ++ mode_text mode ++ space ∷ content ++ space ∷ path ++ newline ∷ []
 item_text (Delete path) = codes "D " ++ path ++ newline ∷ []
 
--- bytes without one that is the mark
+-- no byte equals the mark
 abbrev pub has_no : ℕ → List ℕ → Bool
 has_no mark bytes = list_all (λ byte. not (byte == mark)) bytes
 
--- an item that can be written: its texts are in one line, and what they have to be
+-- an item can be written: each of its texts is on one line and has the form that the item needs
 abbrev pub IsWritable : ItemValue → Type 0
 IsWritable Blank = Unit {0}
 IsWritable (Bare item) = Unit {0}
@@ -182,6 +182,6 @@ IsWritable (Data bytes) = length bytes < 10 ^ 10
 IsWritable (Modify mode content path) = (has_no newline content ≡ true) × (has_no space content ≡ true) × (has_no newline path ≡ true)
 IsWritable (Delete path) = has_no newline path ≡ true
 
--- what is read of an item that was written is that item, and all that follows it is left
+-- reading the bytes of an item that can be written gives that item, and leaves all bytes after it
 abbrev pub ItemsComeBack : Type 0
 ItemsComeBack = (item : ItemValue) (rest : List ℕ) → IsWritable item → item_at (item_text item ++ rest) ≡ Ok (item, rest)

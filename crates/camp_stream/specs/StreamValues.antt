@@ -1,4 +1,4 @@
--- Items of a stream: its lines, and data with their bytes.
+-- Items of a stream as values: its lines, and data with their bytes.
 use Rattle.std.specs.Prelude.{ℕ, List}
 use Rattle.camp_coding.specs.declared.modes.Mode.{Mode}
 use Rattle.camp_stream.specs.declared.items.BareItem.{BareItem}
@@ -6,7 +6,7 @@ use Rattle.camp_stream.specs.declared.items.TextItem.{TextItem}
 use Rattle.camp_stream.specs.declared.items.StreamItem.{StreamItem}
 use Rattle.camp_stream.specs.declared.items.StreamItem.TheVariants as item
 
--- an item: an empty line; a word alone; a word and a text; a mark; data; an entry that is set; an entry that is deleted
+-- an item: an empty line; a word alone; a word and a text; a mark; data; an entry to set; an entry to delete
 pub data ItemValue : Type 0 where
   Blank : ItemValue
   Bare : BareItem → ItemValue
@@ -16,7 +16,7 @@ pub data ItemValue : Type 0 where
   Modify : Mode → (content path : List ℕ) → ItemValue
   Delete : List ℕ → ItemValue
 
--- an item, without where it lies in the stream
+-- an item, as a value
 abbrev pub value_of_item : StreamItem → ItemValue
 value_of_item item.Blank = Blank
 value_of_item (item.Bare word) = Bare word

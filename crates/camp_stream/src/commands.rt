@@ -1,4 +1,4 @@
-//! Commands of a stream: an item with all items that belong to it.
+//! Commands of a stream: each is an item and all items that belong to it.
 
 ghost use Rattle.std.specs.Prelude.{◌≡◌};
 ghost use Rattle.camp_stream.specs.declared.commands.ReadError.TheVariants as error;
@@ -8,22 +8,22 @@ use camp_coding::Mode;
 use std::alloc::{AllocError, AllocFailed};
 use thiserror::Error;
 
-/// A change of the entries of a commit. `read_path` reads a path.
+/// A change of the entries of a commit. `read_path` decodes its path.
 #[derive(Clone, Copy, Debug)]
 pub enum FileChange<'a> {
-    /// An entry is set, to a content that a mark or an id names.
+    /// Sets an entry to a content, which is given by a mark or an id.
     Set {
         mode: Mode,
         content: &'a [u8],
         path: &'a [u8],
     },
-    /// A file, or all files in a folder, are deleted.
+    /// Deletes a file, or all files in a folder.
     Delete(&'a [u8]),
-    /// All files are deleted.
+    /// Deletes all files.
     DeleteAll,
 }
 
-/// A content.
+/// A blob: the content of a file.
 #[derive(Clone, Copy, Debug)]
 pub struct Blob<'a> {
     pub mark: Option<&'a [u8]>,
@@ -46,7 +46,7 @@ pub struct Commit<'a> {
     pub changes: Vec<FileChange<'a>>,
 }
 
-/// A reference that is set to a commit, or is to begin anew.
+/// A reset: a reference is set to a commit, or begins anew.
 #[derive(Clone, Copy, Debug)]
 pub struct Reset<'a> {
     pub reference: &'a [u8],
@@ -64,7 +64,7 @@ pub struct Tag<'a> {
     pub message: &'a [u8],
 }
 
-/// A command of a stream. Its texts lie in the stream.
+/// A command of a stream. Its texts are slices of the stream.
 #[derive(Debug, Drop)]
 pub enum Command<'a> {
     Blob(Blob<'a>),
@@ -87,7 +87,7 @@ pub struct StreamFault {
     pub left: usize,
 }
 
-/// Why a stream was not read.
+/// Why a stream was not read to its end.
 #[derive(Clone, Copy, Debug, PartialEq, Eq, Error)]
 pub enum ReadError {
     /// Out of memory.

@@ -3,7 +3,7 @@
 use camp_coding::Mode;
 use thiserror::Error;
 
-/// A line that is a word alone.
+/// A line that consists of a word alone.
 #[derive(Clone, Copy, Debug, PartialEq, Eq)]
 pub enum BareItem {
     Blob,
@@ -12,7 +12,7 @@ pub enum BareItem {
     Done,
 }
 
-/// A line that is a word and a text.
+/// A line that consists of a word and a text.
 #[derive(Clone, Copy, Debug, PartialEq, Eq)]
 pub enum TextItem {
     Commit,
@@ -30,7 +30,7 @@ pub enum TextItem {
     Option,
 }
 
-/// An item of a stream. Its texts lie in the stream.
+/// An item of a stream. Its texts are slices of the stream.
 #[derive(Clone, Copy, Debug)]
 pub enum StreamItem<'a> {
     /// An empty line.
@@ -43,13 +43,13 @@ pub enum StreamItem<'a> {
     Mark(&'a [u8]),
     /// `data` and as many bytes as it says.
     Data(&'a [u8]),
-    /// `M`: an entry is set, to a content that a mark or an id names. `read_path` reads its path.
+    /// `M`: sets an entry to a content, which is given by a mark or an id. `read_path` decodes its path.
     Modify {
         mode: Mode,
         content: &'a [u8],
         path: &'a [u8],
     },
-    /// `D`: a file, or all files in a folder, are deleted. `read_path` reads the path.
+    /// `D`: deletes a file, or all files in a folder. `read_path` decodes the path.
     Delete(&'a [u8]),
 }
 
@@ -59,25 +59,25 @@ pub enum StreamFaultKind {
     /// The stream ends within a line, or before the data has as many bytes as it says.
     #[error("the stream ends within a command")]
     CutOff,
-    /// The first word is none of a stream, or it lacks its text.
+    /// The first word is not one of a stream, or needs a text and has none.
     #[error("unknown command")]
     UnknownCommand,
-    /// A mark is `:` and digits.
+    /// A mark is not `:` and digits.
     #[error("bad mark")]
     BadMark,
-    /// The length of data is 1 to 10 digits; data up to a delimiter is not taken.
+    /// The length of data is not 1 to 10 digits; data up to a delimiter is not supported.
     #[error("bad length of data")]
     BadLength,
-    /// The mode is no file, link or submodule.
+    /// The mode is not that of a file, link or submodule.
     #[error("bad mode")]
     BadMode,
-    /// `M` has a mode, a content and a path, with a space between two of them.
+    /// `M` needs a mode, a content and a path, with a space between each two.
     #[error("bad change of a file")]
     BadModify,
-    /// `C` and `R` are not taken.
+    /// `C` and `R` are not supported.
     #[error("copies and renames are not taken: export without -M and -C")]
     CopyOrRename,
-    /// The item can't follow what stands before it, as a mark outside a command.
+    /// The item can't come after those before it, such as a mark outside a command.
     #[error("misplaced command")]
     Misplaced,
 }

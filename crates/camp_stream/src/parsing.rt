@@ -13,7 +13,7 @@ use crate::wanted::{
 };
 use std::alloc::Global;
 
-/// Reads the first command of a stream, and returns it with the bytes after it. Its texts lie in the stream.
+/// Reads the first command of a stream. Returns it and the bytes after it; its texts are slices of the stream.
 #[tactic(auto, unfolding(crate::specs::Commands::command_at))]
 pub fn read_command(alloc: Global, stream: &[u8]) -> Result<(Command<'_>, &[u8]), ReadError>
     ensures exact { ReadsTo (λ found. (value_of_command found.0, found.1.now)) result (command_at stream.now) }
@@ -22,8 +22,8 @@ pub fn read_command(alloc: Global, stream: &[u8]) -> Result<(Command<'_>, &[u8])
     read_from(alloc, item, stream, rest)
 }
 
-/// Reads the commands of a stream up to its end or to `done`, and returns them with the bytes after that. Their
-/// texts lie in the stream.
+/// Reads the commands of a stream, up to its end or to `done`. Returns them and the bytes after that; their texts are
+/// slices of the stream.
 #[tactic(auto, unfolding(crate::specs::Commands::stream_at))]
 pub fn read_stream(alloc: Global, stream: &[u8]) -> Result<(Vec<Command<'_>>, &[u8]), ReadError>
     ensures exact { ReadsTo (λ found. (command_values found.0.items, found.1.now)) result (stream_at stream.now) }
@@ -61,7 +61,7 @@ fn unless_done(command: Command<'_>) -> Option<Command<'_>>
     }
 }
 
-/// Returns the line, counted from 1, of what begins where `left` bytes are left of a stream.
+/// Returns the line number, counted from 1, of the bytes of a stream of which `left` are left.
 pub fn line_of(stream: &[u8], left: usize) -> usize
     ensures exact { result ≡ line_at_rest stream.now left }
 {

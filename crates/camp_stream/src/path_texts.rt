@@ -1,4 +1,4 @@
-//! Paths of commands, in quotes or as they are.
+//! Paths of commands, quoted or not.
 
 ghost use Rattle.std.specs.Prelude.{◌≡◌, IfOk, option_map};
 ghost use Rattle.camp_stream.specs.QuotedPaths.{path_of_text};
@@ -6,8 +6,8 @@ ghost use Rattle.camp_stream.specs.QuotedPaths.{path_of_text};
 use crate::unquoting::unquote_path;
 use std::alloc::{AllocError, Global};
 
-/// Reads the path of a change: in quotes, which end the text, or as it is. `None` if the quotes are not
-/// closed where the text ends, or an escape is not one of C.
+/// Decodes the path of a change: in quotes, which must end the text, or unquoted. `None` if the closing quote is
+/// missing or does not end the text, or an escape is not one of C.
 pub fn read_path(alloc: Global, text: &[u8]) -> Result<Option<Vec<u8>>, AllocError>
     ensures exact { IfOk result (λ found. option_map (λ path. path.items) found ≡ path_of_text text.now) }
 {

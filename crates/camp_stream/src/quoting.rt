@@ -6,8 +6,8 @@ ghost use Rattle.camp_stream.specs.QuotedPaths.{QuotedPathsComeBack, quoted_path
 
 use std::alloc::{AllocError, Global};
 
-/// Quotes a path: two quotes around it, and each byte outside ` ` to `~`, each quote and each backslash as a
-/// backslash and three octal digits.
+/// Quotes a path: each byte outside ` ` to `~`, each quote and each backslash becomes a backslash and three octal
+/// digits, with a quote before and after all.
 pub fn quote_path(alloc: Global, path: &[u8]) -> Result<Vec<u8>, AllocError>
     ensures exact { IfOk result (λ text. text.items ≡ quoted_path path.now) }
 {
@@ -18,7 +18,7 @@ pub fn quote_path(alloc: Global, path: &[u8]) -> Result<Vec<u8>, AllocError>
     Ok(text)
 }
 
-/// Reading a quoted path gives that path, and all that follows it is left.
+/// Reading a quoted path gives that path, and leaves all bytes after it.
 pub fn quoted_paths_come_back()
     ensures { QuotedPathsComeBack }
 {}

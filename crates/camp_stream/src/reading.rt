@@ -8,8 +8,8 @@ use crate::words::{
     bare_item, cut_at, decimal_value, is_data_length, is_mark, mode_of_digits, text_item,
 };
 
-/// Reads the first item of a stream, and returns it with the bytes after it. Allocates nothing: the texts of the item lie in
-/// the stream. `CutOff` where more bytes may make an item.
+/// Reads the first item of a stream. Returns it and the bytes after it. Does not allocate: the texts of the item are
+/// slices of the stream. `CutOff` if more bytes could complete the item.
 pub fn read_item(stream: &[u8]) -> Result<(StreamItem<'_>, &[u8]), StreamFaultKind>
     ensures exact { GivesItem result (item_at stream.now) }
     ensures shorter { IfOk result (λ found. length found.1.now < length stream.now) }

@@ -11,8 +11,8 @@ use crate::items::{BareItem, StreamItem, TextItem};
 use crate::writing::append_item;
 use std::alloc::AllocError;
 
-/// Appends the bytes of a command to a stream: an empty line stands after each data, and after a commit, a
-/// reset, `progress` and `checkpoint`.
+/// Appends the bytes of a command to a stream. An empty line comes after each data, and after a commit, a reset,
+/// `progress` and `checkpoint`.
 pub fn append_command(stream: &mut Vec<u8>, command: &Command<'_>) -> Result<(), AllocError>
     ensures exact { OnOk result (stream.new.items ≡ stream.old.items ++ stream_command_bytes (value_of_command command.now)) }
 {
@@ -35,12 +35,12 @@ pub fn append_command(stream: &mut Vec<u8>, command: &Command<'_>) -> Result<(),
     }
 }
 
-/// What is read of a command that was written is that command, and all that follows it is left.
+/// Reading the bytes of a command that can be written gives that command, and leaves all bytes after it.
 pub fn commands_come_back()
     ensures { CommandsComeBack }
 {}
 
-/// What is read of commands that were written, none of them `done`, is these commands.
+/// Reading the bytes of commands that can be written, none of them `done`, gives these commands.
 pub fn streams_come_back()
     ensures { StreamsComeBack }
 {}

@@ -1,4 +1,4 @@
-//! Items as git writes them, and paths as it quotes them.
+//! Tests of items as git writes them, and of paths as it quotes them.
 
 use crate::{
     Command, ReadError, StreamFaultKind, append_command, append_item, line_of, quote_path,
@@ -35,8 +35,7 @@ fn quoted(rt: HostRuntime) -> Result<(), Fail> {
     Ok(())
 }
 
-/// The output of `git fast-export` for a tab, a quote, a backslash and the bytes FF FE, each after its
-/// opening quote.
+/// The output of `git fast-export` for a tab, a quote, a backslash and the bytes FF FE.
 #[test]
 fn read_from_git(rt: HostRuntime) -> Result<(), Fail> {
     let alloc = rt.alloc();
@@ -62,7 +61,7 @@ fn faults(rt: HostRuntime) -> Result<(), Fail> {
     Ok(())
 }
 
-/// The output of `git fast-export --show-original-ids` is read and written again.
+/// The output of `git fast-export --show-original-ids`, once read, is written as the same bytes.
 #[test]
 fn read_from_export(rt: HostRuntime) -> Result<(), Fail> {
     let alloc = rt.alloc();
@@ -82,7 +81,7 @@ fn read_from_export(rt: HostRuntime) -> Result<(), Fail> {
     Ok(())
 }
 
-/// A prefix of a stream ends between two items, or its last item is cut off.
+/// A prefix of a stream ends between two items, or is cut off within an item.
 #[test]
 fn cut_anywhere(rt: HostRuntime) -> Result<(), Fail> {
     let stream = b"blob\nmark :1\ndata 4\na\nb\n\ncommit refs/heads/main\nM 100644 :1 a\n";
@@ -95,7 +94,7 @@ fn cut_anywhere(rt: HostRuntime) -> Result<(), Fail> {
     Ok(())
 }
 
-/// The fault of the first item that is not read, if there is one.
+/// Returns the fault of the first item that has one.
 fn fault_of(stream: &[u8]) -> Option<StreamFaultKind> {
     let mut rest = stream;
     for _ in 0..stream.len() {
@@ -127,8 +126,7 @@ fn faults_of_items(rt: HostRuntime) -> Result<(), Fail> {
     Ok(())
 }
 
-/// Two commits, as `git fast-export` writes them: the second one merges two others, and has no LF after its
-/// message.
+/// Two commits, as `git fast-export` writes them: the second merges two others, and its message has no LF at the end.
 const COMMITS: &[u8] =
     b"blob\nmark :1\ndata 2\na\n\nreset refs/heads/main\ncommit refs/heads/main\nmark :2\nauthor A <a@b> 1 +0000\ncommitter B <b@c> 2 +0000\nencoding latin1\ndata 2\nm\nM 100755 :1 \"a\\tb\"\n\ncommit refs/heads/main\nmark :3\ncommitter B <b@c> 3 +0000\ndata 1\nnfrom :2\nmerge :4\nmerge :5\ndeleteall\nD c d\n\n";
 
@@ -157,7 +155,7 @@ fn commits(rt: HostRuntime) -> Result<(), Fail> {
     Ok(())
 }
 
-/// The commands of a stream, written and read again, are written as the same bytes.
+/// Commands of a stream that are written, read and written again give the same bytes.
 #[test]
 fn written_again(rt: HostRuntime) -> Result<(), Fail> {
     let once = rewritten(rt.alloc(), COMMITS)?;
@@ -175,7 +173,7 @@ fn rewritten(alloc: Global, stream: &[u8]) -> Result<Vec<u8>, Fail> {
     Ok(text)
 }
 
-/// A fault is that of the first item that is wrong, on its line; line feeds within data count.
+/// A fault is that of the first wrong item, with its line number; line feeds within data count.
 #[test]
 fn faults_of_commands(rt: HostRuntime) -> Result<(), Fail> {
     for (stream, kind, line) in [
@@ -227,7 +225,7 @@ fn faults_of_commands(rt: HostRuntime) -> Result<(), Fail> {
     Ok(())
 }
 
-/// What follows `done` is not read.
+/// Nothing after `done` is read.
 #[test]
 fn after_done(rt: HostRuntime) -> Result<(), Fail> {
     let (commands, rest) = read_stream(rt.alloc(), b"feature done\ndone\nblub")

@@ -1,4 +1,4 @@
-//! Reading quoted paths.
+//! Reading quoted paths, byte by byte.
 
 ghost use Rattle.std.specs.Prelude.{◌≡◌, ◌∷◌, ◌≤◌, ℕ, List, drop, option_map, IfOk};
 ghost use Rattle.camp_stream.specs.QuotedPaths.{letter_value, unquoted_from};
@@ -6,10 +6,10 @@ ghost use Rattle.camp_stream.specs.Inside.Steps.{IsOctalState, IsOctalStep, afte
 
 use std::alloc::{AllocError, Global};
 
-/// The part of an escape that was read.
+/// The state of reading an escape.
 #[derive(Clone, Copy, Debug, PartialEq, Eq)]
 pub enum EscapeState {
-    /// Nothing.
+    /// No escape has begun.
     Plain,
     /// A backslash.
     Backslash,
@@ -28,7 +28,7 @@ pub struct Unquoted {
     pub end: usize,
 }
 
-/// The step for a byte: it closes the path, continues an escape, gives a byte of the path, or is a fault.
+/// What a byte does: it closes the path, continues an escape, gives a byte of the path, or is a fault.
 #[derive(Clone, Copy)]
 enum Step {
     Closes,
@@ -37,8 +37,8 @@ enum Step {
     Fails,
 }
 
-/// Reads a path that follows an opening quote, up to its closing quote. `None` if there is no closing quote,
-/// or an escape is not one of C.
+/// Reads a path after its opening quote, up to its closing quote. `None` if the closing quote is missing, or an escape
+/// is not one of C.
 pub fn unquote_path(alloc: Global, text: &[u8]) -> Result<Option<Unquoted>, AllocError>
     ensures exact { IfOk result (λ found. option_map (λ read. (read.path.items, drop read.end text.now)) found ≡ unquoted_from EscapeState.Plain text.now) }
 {

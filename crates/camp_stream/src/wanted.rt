@@ -1,4 +1,4 @@
-//! The next item of a stream, if it is the one that is wanted.
+//! Reading the next item of a stream if it is the one that the caller wants.
 
 ghost use Rattle.std.specs.Prelude.{◌≡◌, option_map};
 ghost use Rattle.camp_stream.specs.CommandValues.{text_value, value_of_change};
@@ -11,7 +11,7 @@ use crate::items::{BareItem, StreamFaultKind, StreamItem, TextItem};
 use crate::reading::read_item;
 use crate::words::text_word;
 
-/// Reads the first item; a fault says how many bytes are left.
+/// Reads the first item; a fault contains the number of bytes that are left.
 #[tactic(auto, unfolding(crate::specs::Commands::first_item))]
 pub(crate) fn first_item(bytes: &[u8]) -> Result<(StreamItem<'_>, &[u8]), ReadError>
     ensures { ReadsTo (λ found. (value_of_item found.0, found.1.now)) result (first_item bytes.now) }
@@ -22,7 +22,7 @@ pub(crate) fn first_item(bytes: &[u8]) -> Result<(StreamItem<'_>, &[u8]), ReadEr
     }
 }
 
-/// The fault of the item at the front of these bytes.
+/// Makes the fault of the item at the start of these bytes.
 pub(crate) fn fault_at(kind: StreamFaultKind, bytes: &[u8]) -> ReadError
     ensures { result ≡ error.Fault (item_fault kind bytes.now) }
 {
@@ -32,7 +32,7 @@ pub(crate) fn fault_at(kind: StreamFaultKind, bytes: &[u8]) -> ReadError
     })
 }
 
-/// Reads the next item if it is this word and a text.
+/// Reads the text of the next item if its word is this one.
 #[tactic(auto, unfolding(crate::specs::Commands::optional))]
 pub(crate) fn optional_text(
     wanted: TextItem,
@@ -50,7 +50,7 @@ pub(crate) fn optional_text(
     }
 }
 
-/// Reads the next item, which has to be this word and a text.
+/// Reads the text of the next item, whose word must be this one.
 #[tactic(auto, unfolding(crate::specs::Commands::required))]
 pub(crate) fn required_text(wanted: TextItem, bytes: &[u8]) -> Result<(&[u8], &[u8]), ReadError>
     ensures { ReadsTo (λ found. (found.0.now, found.1.now)) result (required (text_if wanted) bytes.now) }
@@ -77,7 +77,7 @@ pub(crate) fn optional_mark(bytes: &[u8]) -> Result<(Option<&[u8]>, &[u8]), Read
     }
 }
 
-/// Reads the next item if it is a change of a commit's entries.
+/// Reads the next item if it is one of a commit's changes.
 #[tactic(auto, unfolding(crate::specs::Commands::optional))]
 pub(crate) fn optional_change(bytes: &[u8]) -> Result<(Option<FileChange<'_>>, &[u8]), ReadError>
     ensures { ReadsTo (λ found. (option_map value_of_change found.0, found.1.now)) result (optional change_if bytes.now) }
@@ -92,7 +92,7 @@ pub(crate) fn optional_change(bytes: &[u8]) -> Result<(Option<FileChange<'_>>, &
     }
 }
 
-/// Returns the bytes after an empty line, if there is one at the front.
+/// Reads an optional empty line.
 #[tactic(auto, unfolding(crate::specs::Commands::optional))]
 pub(crate) fn skip_blank(bytes: &[u8]) -> Result<(Option<()>, &[u8]), ReadError>
     ensures { ReadsTo (λ found. (found.0, found.1.now)) result (optional blank_if bytes.now) }
@@ -107,7 +107,7 @@ pub(crate) fn skip_blank(bytes: &[u8]) -> Result<(Option<()>, &[u8]), ReadError>
     }
 }
 
-/// Reads data, and an empty line after it if there is one.
+/// Reads data, and the empty line after it if there is one.
 #[tactic(auto, unfolding(crate::specs::Commands::data_at))]
 pub(crate) fn read_data(bytes: &[u8]) -> Result<(&[u8], &[u8]), ReadError>
     ensures { ReadsTo (λ found. (found.0.now, found.1.now)) result (data_at bytes.now) }

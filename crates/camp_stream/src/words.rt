@@ -1,4 +1,4 @@
-//! Words of items, and lines cut at their spaces.
+//! Words of items, and lines split at their spaces.
 
 ghost use Rattle.std.specs.Prelude.{◌≡◌, ◌==◌, ◌<◌, ◌≤◌, IfSome, length, option_map};
 ghost use Rattle.std.specs.List.{list_all, position_or_len};
@@ -11,7 +11,7 @@ use camp_coding::Mode;
 /// The most digits of the length of data.
 pub(crate) const MAX_DIGITS: usize = 10;
 
-/// The bytes before the first one that is `mark`, and those after it; None if there is none.
+/// Returns the bytes before the first one that equals `mark`, and those after it; `None` if no byte does.
 pub(crate) fn cut_at(mark: u8, bytes: &[u8]) -> Option<(&[u8], &[u8])>
     ensures exact { option_map (λ parts. (parts.0.now, parts.1.now)) result ≡ cut_at mark bytes.now }
     ensures shorter { IfSome result (λ parts. length parts.1.now < length bytes.now) }
@@ -34,7 +34,7 @@ fn len_before(mark: u8, bytes: &[u8]) -> usize
         .unwrap_or(bytes.len())
 }
 
-/// The item that is this word alone.
+/// Returns the item that consists of this word alone, if there is one.
 pub(crate) fn bare_item(word: &[u8]) -> Option<BareItem>
     ensures { result ≡ bare_item word.now }
 {
@@ -53,7 +53,7 @@ pub(crate) fn bare_item(word: &[u8]) -> Option<BareItem>
     None
 }
 
-/// The word of an item that is a word alone.
+/// Returns the word of an item that consists of it alone.
 pub(crate) fn bare_word(item: BareItem) -> &'static [u8]
     ensures { result.now ≡ bare_word item }
 {
@@ -65,7 +65,7 @@ pub(crate) fn bare_word(item: BareItem) -> &'static [u8]
     }
 }
 
-/// The item that is this word and a text.
+/// Returns the item with this word and a text, if there is one.
 pub(crate) fn text_item(word: &[u8]) -> Option<TextItem>
     ensures { result ≡ text_item word.now }
 {
@@ -90,7 +90,7 @@ pub(crate) fn text_item(word: &[u8]) -> Option<TextItem>
     described_item(word)
 }
 
-/// The same of an item that describes a commit or a tag.
+/// Returns the item with this word and a text that describes a commit or a tag, if there is one.
 fn described_item(word: &[u8]) -> Option<TextItem>
     ensures { result ≡ described_item word.now }
 {
@@ -118,7 +118,7 @@ fn described_item(word: &[u8]) -> Option<TextItem>
     None
 }
 
-/// The word of an item that is a word and a text.
+/// Returns the word of an item that has a word and a text.
 pub(crate) fn text_word(item: TextItem) -> &'static [u8]
     ensures { result.now ≡ text_word item }
 {
@@ -139,7 +139,7 @@ pub(crate) fn text_word(item: TextItem) -> &'static [u8]
     }
 }
 
-/// The mode that has these digits.
+/// Returns the mode with these digits, if there is one.
 pub(crate) fn mode_of_digits(digits: &[u8]) -> Option<Mode>
     ensures { result ≡ mode_of_digits digits.now }
 {
@@ -191,7 +191,7 @@ fn has_digits(text: &[u8]) -> bool
     text.iter().all(|byte| matches!(byte, b'0'..=b'9'))
 }
 
-/// The number that decimal digits spell.
+/// Returns the value of decimal digits.
 pub(crate) fn decimal_value(digits: &[u8]) -> usize
     requires { length digits.now ≤ 10 }
     ensures { result ≡ decimal_value digits.now }

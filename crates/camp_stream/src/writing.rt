@@ -41,7 +41,7 @@ pub fn append_item(stream: &mut Vec<u8>, item: &StreamItem<'_>) -> Result<(), Al
     }
 }
 
-/// What is read of an item that was written is that item, and all that follows it is left.
+/// Reading the bytes of an item that can be written gives that item, and leaves all bytes after it.
 pub fn items_come_back()
     ensures { ItemsComeBack }
 {}

@@ -149,7 +149,7 @@ module _ (line : List ℕ) (is : IsLine line) where
       record { line = line; count = count; counts = held_counted line count counts; large = large; reads = reads }
   other_read a b other none reads = absurd none
 
--- no whole frame stands at the front of a part of one
+-- a part of a frame does not begin with a complete one
 pub part_has_no_frame : (bytes : List ℕ) → EndsWithin bytes → HasNoFrame bytes
 part_has_no_frame bytes (inl line) request frame more framed same = cut_line bytes line request frame more framed same
 part_has_no_frame bytes (inr short) request frame more framed same =
@@ -301,7 +301,7 @@ module _ (a b c : Option (List ℕ)) (count : ℕ) (old new : List ℕ) where
     ends_after a b c old first ends,
   )
 
--- ---- what stands in a buffer
+-- ---- the contents of a buffer
 
 -- a line with a number of bytes, and as many after it
 pub begins_frame : (bytes : List ℕ) (feed count : ℕ) → feed ≡ position_or_len (λ byte. byte == 10) bytes → feed < length bytes

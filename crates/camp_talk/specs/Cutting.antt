@@ -1,4 +1,4 @@
--- How the lines of a conversation are grouped into commands: a first line, and those that belong to it.
+-- How the lines of a conversation are grouped into commands: a first line, and the lines that belong to it.
 use Rattle.std.specs.Prelude.{◌≡◌, ◌≢◌, ℕ, nat_lt, List, [], ◌∷◌, ◌++◌, length, map, take, drop, Result, codes, if◌then◌else◌}
 use Rattle.std.specs.List.{All}
 use Rattle.camp_base.specs.Limits.{longest_line}
@@ -10,17 +10,17 @@ use Rattle.camp_script.specs.Reading.{script_of_lines}
 use Rattle.camp_script.specs.declared.faults.LineFault.{LineFault}
 use Rattle.camp_why.specs.Hints.{call_part}
 
--- a line has no line feed in it
+-- a line contains no line feed
 abbrev pub IsLine : List ℕ → Type 0
 IsLine line = All (λ byte. byte ≢ newline) line
 
--- bytes of the longest line that is read whole
+-- the most bytes of a line that is read completely
 abbrev pub longest_read : ℕ
 longest_read = 1_048_576
 
--- a line as it is read. Of a longer one the first byte is read, `?` instead of the second, and then as many bytes as
--- the longest line of a file has. So it begins no command; in a body it has the fault of a line that is too long, if
--- it has a sign; and a comment stays one, if `#` is its first byte.
+-- a line as it is read. A line that is too long is replaced by its first byte, a `?`, and as many further bytes as the
+-- longest line of a file has. So it begins no command; in a body it has the fault of a line that is too long, if it
+-- begins with a sign; and a comment stays one, if `#` is its first byte.
 abbrev pub as_read : List ℕ → List ℕ
 as_read [] = []
 as_read (first ∷ rest) =
@@ -30,20 +30,21 @@ as_read (first ∷ rest) =
 abbrev pub lines_in : List ℕ → List (List ℕ)
 lines_in bytes = map as_read (lines_of bytes)
 
--- lines from that of a call on
+-- the lines of a command from that of its call on, without those of `whatif`
 abbrev pub call_lines : List (List ℕ) → List (List ℕ)
 call_lines [] = []
 call_lines (first ∷ rest) = call_part first ∷ rest
 
--- the script of the call of a command, by its lines
+-- the script of the call of a command, read from its lines
 abbrev pub script_in : List (List ℕ) → Result (List (List Call)) LineFault
 script_in lines = script_of_lines (call_lines lines)
 
--- the following lines that belong to a first line, by its call
+-- of the lines after a first line, those that belong to it, by its call
 abbrev pub lines_taken : List ℕ → List (List ℕ) → List (List ℕ)
 lines_taken first lines = command.taken (call_part first) lines
 
--- bytes are a command: they end with a line, and whatever follows, exactly the lines after the first belong to it
+-- bytes are a complete command: they end with a line feed, and whatever follows, exactly the lines after the first
+-- belong to it
 pub record IsCommand (bytes : List ℕ) : Type 0 where
   pub first : List ℕ
   pub rest : List (List ℕ)

@@ -7,9 +7,9 @@ use Rattle.camp_talk.specs.declared.recovery.Recovery.{Recovery}
 use Rattle.camp_talk.specs.declared.recovery.Recovery.TheVariants.{Body, Group, GroupBody, Nothing, Signed}
 use Rattle.camp_why.specs.Hints.{begins_signed, call_part, first_word}
 
--- ---- the lines of a command that was cut off
+-- ---- recovery: the lines of a command that was cut off
 
--- a line of the cut-off command may still come
+-- lines of the cut-off command may still come
 abbrev pub is_recovering : Recovery → Bool
 is_recovering Nothing = false
 is_recovering Signed = true
@@ -17,7 +17,7 @@ is_recovering Body = true
 is_recovering Group = true
 is_recovering GroupBody = true
 
--- a line may be one of it
+-- this line may be one of the cut-off command
 abbrev pub may_be : Recovery → List ℕ → Bool
 may_be Nothing line = false
 may_be Signed line = begins_signed line
@@ -25,7 +25,7 @@ may_be Body line = true
 may_be Group line = true
 may_be GroupBody line = true
 
--- the lines that may come after a line: as in a command that is not cut off, a body ends with `end`, and a group with
+-- the kind of lines that may come after this one; as in a complete command, a body ends with `end`, and a group with
 -- `done`
 abbrev pub recovery_after : Recovery → List ℕ → Recovery
 recovery_after Nothing line = Nothing
@@ -36,16 +36,16 @@ recovery_after Group line =
     if begins_edit (words_of line) then GroupBody
     else (if begins_with (codes "done") (words_of line) then Nothing else Group)
 
--- a word is one of three: in small letters, with a capital letter, and in capitals
+-- a word is one of three: in small letters, with a capital letter at its start, or in capitals
 abbrev pub is_form : List ℕ → List ℕ → List ℕ → List ℕ → Bool
 is_form small capital capitals word = bytes_eq word small || (bytes_eq word capital || bytes_eq word capitals)
 
--- a line is a record, by its first word; after `whatif`, by the word after that
+-- a line is a record, by its first word or, after `whatif`, by the word after that
 abbrev pub is_record : List ℕ → Bool
 is_record line =
     is_form (codes "record") (codes "Record") (codes "RECORD") (first_word (words_of (call_part line)))
 
--- the first word of a line is `client`, or that of a command which may be unknown only because of the words after it
+-- the first word of a line is `client`, or that of a command that may be unknown only because of the words after it
 abbrev pub begins_command : List ℕ → Bool
 begins_command line =
     is_record line
@@ -58,17 +58,17 @@ abbrev pub is_short : List ℕ → Bool
 is_short word =
     is_form (codes "add") (codes "Add") (codes "ADD") word || is_form (codes "remove") (codes "Remove") (codes "REMOVE") word
 
--- it says that those of a group follow, also if there is a carriage return before the line feed
+-- a word of a record says that the lines of a group follow, perhaps with a carriage return before the line feed
 abbrev pub is_group : List ℕ → Bool
 is_group word =
     is_form (codes "group") (codes "Group") (codes "GROUP") word
     || is_form (codes "group\r") (codes "Group\r") (codes "GROUP\r") word
 
--- it says that those of a body follow
+-- a word of a record says that the lines of a body follow
 abbrev pub is_edit : List ℕ → Bool
 is_edit word = is_form (codes "edit") (codes "Edit") (codes "EDIT") word
 
--- the lines that follow, by the first of some words that says it; else these
+-- the kind of lines that follow by the first of these words that says it; else the given kind
 abbrev pub recovery_in_words : List (List ℕ) → Recovery → Recovery
 recovery_in_words [] other = other
 recovery_in_words (word ∷ words) other =
@@ -77,40 +77,40 @@ recovery_in_words (word ∷ words) other =
     else (if is_edit word then Body
     else recovery_in_words words other))
 
--- the lines that follow a record, by the rest of its line after the branch: by the words after the name, if its
--- change is one of them; else by the word in the place of the name, which may have been left out; else a line with a
--- sign, followed by a body
+-- the kind of lines that follow a record, by the rest of its line after the branch. The words after the name decide if
+-- the change is one of them; else the word in the position of the name, which may have been left out; else a line with
+-- a sign is expected, followed by a body
 abbrev pub recovery_after_branch : List ℕ → Recovery
 recovery_after_branch line = recovery_in_words (words_of (after_word line)) (recovery_in_words (words_of line) Signed)
 
--- the lines that follow a line that is cut off from them, if it is a record, or may be a misspelt one
+-- the kind of lines that follow a line with a fault, if it is a record, or may be a misspelt one
 abbrev pub recovery_of_line : List ℕ → Recovery
 recovery_of_line line = recovery_after_branch (after_word (after_word (call_part line)))
 
 -- ---- the diagnostic and the recovery state
 
--- the diagnostic of the last fault or refusal: the lines that `why` shows, none if there was none; and the lines of
--- its command that may still come, if that is a record that was cut off by a fault in its first line, or may be one
+-- the diagnostic of the last fault or refusal: the lines that `why` shows, none if there was no fault and no refusal;
+-- and the kind of lines that may still come, if the fault is in the first line of a record, or of what may be one
 pub record Diagnostic : Type 0 where
   pub report : List ℕ
   pub recovery : Recovery
 
--- the state before any fault or refusal
+-- the diagnostic before any fault or refusal
 abbrev pub no_diagnostic : Diagnostic
 no_diagnostic = record { report = []; recovery = Nothing }
 
--- the same lines; none of its command may come
+-- the same diagnostic, after which no further lines of its command may come
 abbrev pub closed : Diagnostic → Diagnostic
 closed diagnostic = record { report = diagnostic.report; recovery = Nothing }
 
--- the same lines, after one of its command came
+-- the same diagnostic, after one more line of its command
 abbrev pub advanced : Diagnostic → List ℕ → Diagnostic
 advanced diagnostic line = record { report = diagnostic.report; recovery = recovery_after diagnostic.recovery line }
 
--- an answer leaves the state as it is: it is empty, or out of memory
+-- an answer leaves the diagnostic unchanged: it is empty, or out of memory
 abbrev pub leaves_diagnostic : List ℕ → Bool
 leaves_diagnostic answer = length answer == 0 || bytes_eq answer (codes "memory\n")
 
--- the state after an answer that is neither a fault nor a refusal
+-- the diagnostic after an answer that is neither a fault nor a refusal
 abbrev pub diagnostic_after : List ℕ → Diagnostic → Diagnostic
 diagnostic_after answer diagnostic = if leaves_diagnostic answer then diagnostic else closed diagnostic

@@ -3,6 +3,6 @@ use Rattle.camp_call.specs.declared.calls.Call.{Call}
 use Rattle.camp_object.specs.Books.{Booked}
 use Rattle.camp_repo.specs.States.{Contents}
 
--- the state that a repository began with, and its accepted calls, each under the number of its seat
+-- the initial state of a repository, and its accepted calls, each with the number of its seat
 abbrev pub Entries : Type 0
 Entries = Booked Contents Call

@@ -15,26 +15,27 @@ talk_fault_words (Read error) = codes "cannot read input"
 talk_fault_words (Write error) = codes "cannot write output"
 talk_fault_words Internal = codes "internal fault: lines without a number"
 
--- the exit status for it: 4 if a state occurred that cannot occur, else 3
+-- the exit status for the fault: 4 for an internal fault, else 3
 abbrev pub fault_status : TalkFault → ℕ
 fault_status Internal = 4
 fault_status other = 3
 
--- bytes as they are lossy_text: bytes that are no text are lossy_text as the replacement character
+-- bytes as text: bytes that are not UTF-8 are replaced by the replacement character
 abbrev pub lossy_text : List ℕ → List ℕ
 lossy_text bytes = encode_utf8_all (lossy_chars bytes)
 
--- the words for a line, followed by the report
+-- the words for a line number, followed by a report
 abbrev pub at_line_words : ℕ → List ℕ → List ℕ
 at_line_words line text = codes "line " ++ decimal line ++ codes ": " ++ text
 
--- the words that report a fault of a load: the line where its command begins, and the answer
+-- the words that report a fault of a load: the line where its command begins, and its answer
 abbrev pub load_words : LoadFault → List ℕ
 load_words (load.Answer line text) = at_line_words line (lossy_text (without_end text.items))
 load_words (load.Memory line) = at_line_words line (codes "memory")
 load_words (load.Talk fault) = talk_fault_words fault
 
--- the exit status for it: 1 if a command was not done, 3 if it ran out of memory, else that of the fault
+-- the exit status for a fault of a load: 1 if a command was not done, 3 if memory ran out for it, else that of the
+-- fault
 abbrev pub load_status : LoadFault → ℕ
 load_status (load.Answer line text) = 1
 load_status (load.Memory line) = 3

@@ -18,7 +18,7 @@ use Rattle.camp_talk.specs.declared.faults.TalkFault.TheVariants.{Internal, Memo
 abbrev pub most_bytes : ℕ
 most_bytes = 268_435_456
 
--- bytes are the frame of a request: its number of bytes in 1 to 10 digits, a line feed, and the request
+-- bytes are the frame of a request: its length in 1 to 10 digits, a line feed, and the request
 pub record IsFrame (request frame : List ℕ) : Type 0 where
   pub digits : List ℕ
   pub counts : count_of digits ≡ Some (length request)
@@ -33,11 +33,11 @@ framed answer = decimal (length answer) ++ newline ∷ answer
 abbrev pub BeginsNoFrame : List ℕ → Type 0
 BeginsNoFrame bytes = (request frame more : List ℕ) → IsFrame request frame → frame ≢ bytes ++ more
 
--- no whole frame stands at the front of these bytes
+-- bytes do not begin with a complete frame
 abbrev pub HasNoFrame : List ℕ → Type 0
 HasNoFrame bytes = (request frame more : List ℕ) → IsFrame request frame → bytes ≢ frame ++ more
 
--- a line with the number of bytes of a request, and fewer bytes after it than it says
+-- a line with the length of a request, and fewer bytes after it than that
 pub record IsShortFrame (bytes : List ℕ) : Type 0 where
   pub line : List ℕ
   pub some : List ℕ
@@ -47,7 +47,7 @@ pub record IsShortFrame (bytes : List ℕ) : Type 0 where
   pub short : length some < count
   pub is : bytes ≡ line ++ newline ∷ some
 
--- bytes end within a frame: within the line before a request, or within the request
+-- bytes end within a frame: within its first line, or within the request
 abbrev pub EndsWithin : List ℕ → Type 0
 EndsWithin bytes = IsLine bytes ⊎ IsShortFrame bytes
 
@@ -57,9 +57,9 @@ pub record Service : Type 0 where
   pub frame : List ℕ
   pub answer : List ℕ
 
--- by the content of a reader, before and after, if that is known
+-- given the contents of a reader, before and after, if they are known
 module _ (remaining rest : Option (List ℕ)) where
-  -- exactly a line was read, and it is no number of 1 to 10 digits
+  -- exactly a line was read, and it is not a number of 1 to 10 digits
   pub record ReadsNoNumber : Type 0 where
     pub line : List ℕ
     pub is_line : IsLine line
@@ -74,21 +74,21 @@ module _ (remaining rest : Option (List ℕ)) where
     pub large : most_bytes < count
     pub reads : Consumes remaining rest (line ++ newline ∷ [])
 
-  -- no more was read than a part of a frame
+  -- at most a part of a frame was read
   pub record ReadsPart : Type 0 where
     pub some : List ℕ
     pub reads : Consumes remaining rest some
     pub within : EndsWithin some
 
-  -- the input has ended within a frame, and what there was of it was read
+  -- the input has ended within a frame, and what there was of the frame was read
   pub record ReadsCut : Type 0 where
     pub part : ReadsPart
     pub some_are : part.some ≢ []
     pub ends : OnSome remaining (IsAtEnd rest)
 
-  -- no frame was read. NoNumber: exactly a line was read, which is no number. TooLarge: exactly a line was read, whose
-  -- number is too great. Cut: the input has ended within a frame. Memory, Read: memory ran out or the reader failed
-  -- within a frame.
+  -- why no frame was read. NoNumber: exactly a line was read, which is no number. TooLarge: exactly a line was read,
+  -- whose number is too great. Cut: the input has ended within a frame. Memory, Read: within a frame memory ran out or
+  -- the reader failed.
   abbrev pub ReadsNoFrame : FrameFault → Type 0
   ReadsNoFrame NoNumber = ReadsNoNumber
   ReadsNoFrame TooLarge = ReadsTooLarge
@@ -98,9 +98,9 @@ module _ (remaining rest : Option (List ℕ)) where
   ReadsNoFrame (Talk (Write error)) = ⊥
   ReadsNoFrame (Talk Internal) = ⊥
 
--- by that, and the content of a writer, before and after, if that is known
+-- given that, and the contents of a writer, before and after, if they are known
 module _ (remaining rest old new : Option (List ℕ)) where
-  -- exactly the frame of a request was read, and exactly that of its answer was written
+  -- exactly the frame of a request was read, and exactly the frame of its answer was written
   pub record ServesOne (before after : Entries) : Type 0 where
     pub service : Service
     pub is : IsFrame service.request service.frame
@@ -108,7 +108,7 @@ module _ (remaining rest old new : Option (List ℕ)) where
     pub answers : AnswersRequest before service.request service.answer after
     pub writes : Appends old new (framed service.answer)
 
-  -- the input has ended after a request
+  -- there was no further request: the input has ended
   pub record ServesNoMore (before after : Entries) : Type 0 where
     pub reads : Consumes remaining rest []
     pub ends : OnSome remaining (IsAtEnd rest)
@@ -127,7 +127,7 @@ module _ (remaining rest old new : Option (List ℕ)) where
     pub keeps : Keeps old new
     pub same : after ≡ before
 
-  -- the frame of a request was read, and only some of its commands were answered
+  -- the frame of a request was read, but only some of its commands were answered
   pub record AnswersNot (before after : Entries) : Type 0 where
     pub service : Service
     pub is : IsFrame service.request service.frame
@@ -143,9 +143,10 @@ module _ (remaining rest old new : Option (List ℕ)) where
     pub answers : AnswersRequest before service.request service.answer after
     pub writes : AppendsSome old new (framed service.answer)
 
-  -- the service of one request. Ok: whether there may be more, or else the input has ended. NoNumber, TooLarge or Cut:
-  -- no frame was read. Memory, Read: no frame was read, or a request was not answered whole, and nothing was written.
-  -- Write: the answer could not be written. Internal: nothing was read, or a request was not answered whole.
+  -- the result of serving one request. Ok: true if there may be more, false if the input has ended. NoNumber, TooLarge,
+  -- Cut: no frame was read. Memory, Read: no frame was read, or a request was not answered completely; nothing was
+  -- written. Write: the answer could not be written. Internal: nothing was read, or a request was not answered
+  -- completely.
   abbrev pub Serves : Entries → Result Bool FrameFault → Entries → Type 0
   Serves before (Ok true) after = ServesOne before after
   Serves before (Ok false) after = ServesNoMore before after
@@ -157,7 +158,7 @@ module _ (remaining rest old new : Option (List ℕ)) where
   Serves before (Err (Talk (Write error))) after = WritesNot before after
   Serves before (Err (Talk Internal)) after = StaysStill before after ⊎ AnswersNot before after
 
--- requests are answered one after the other, from these accepted calls
+-- requests are answered one after the other, beginning with these accepted calls
 abbrev pub ServedInTurn : Entries → List Service → Entries → Type 0
 ServedInTurn first [] last = first ≡ last
 ServedInTurn first (service ∷ others) last =
@@ -165,20 +166,20 @@ ServedInTurn first (service ∷ others) last =
     × ServedInTurn next others last
 
 -- exactly the frames of requests were read, and exactly the frames of their answers were written: the n-th answer is
--- that of the n-th request, after the requests before it
+-- that of the n-th request, executed after the requests before it
 pub record ServesInTurn (remaining rest old new : Option (List ℕ)) (first last : Entries) : Type 0 where
   pub services : List Service
   pub follow : ServedInTurn first services last
   pub reads : Consumes remaining rest (flat_map (λ service. service.frame) services)
   pub writes : Appends old new (flat_map (λ service. framed service.answer) services)
 
--- the place of a service: the rest of a reader, the content of a writer, and the accepted calls
+-- the state of a service: the rest of the reader, what was written, and the accepted calls
 pub record Counter : Type 0 where
   pub left : Option (List ℕ)
   pub held : Option (List ℕ)
   pub history : Entries
 
--- one request is served, from one place to another
+-- one request is served, which leads from one state to another
 abbrev pub ServesAt : Counter → Result Bool FrameFault → Counter → Type 0
 ServesAt from answer to = Serves from.left to.left from.held to.held from.history answer to.history
 
@@ -189,7 +190,7 @@ frame_words TooLarge = codes "a request has more than 268435456 bytes"
 frame_words Cut = codes "the input ends inside a request"
 frame_words (Talk fault) = talk_fault_words fault
 
--- the exit status for it
+-- the exit status for a fault
 abbrev pub frame_status : FrameFault → ℕ
 frame_status (Talk fault) = fault_status fault
 frame_status other = 1

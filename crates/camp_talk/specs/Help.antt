@@ -6,14 +6,14 @@ use Rattle.camp_talk.specs.Refusals.{reasons, refusal_text, saying}
 use Rattle.camp_talk.specs.declared.questions.Topic.{Topic}
 use Rattle.camp_talk.specs.declared.questions.Topic.TheVariants as topic
 
--- the commands, in the order of the text
+-- the commands, in the order of the help text
 abbrev pub commands : List Topic
 commands =
     topic.Branch ∷ topic.Record ∷ topic.Pull ∷ topic.Obliterate ∷ topic.Tree ∷ topic.Conflicts ∷ topic.Names
     ∷ topic.Branches ∷ topic.File ∷ topic.Needs ∷ topic.Held ∷ topic.Missing ∷ topic.Along ∷ topic.Show
     ∷ topic.Annotate ∷ topic.Open ∷ topic.Side ∷ topic.Marks ∷ topic.Graph ∷ topic.WhatIf ∷ topic.Why ∷ topic.History ∷ topic.Keep ∷ topic.Help ∷ []
 
--- the form of a command, and what it does, in a line for each of its forms
+-- the form of a command, and what it does: a line for each of its forms
 abbrev pub summary : Topic → List ℕ
 summary topic.Commands = []
 summary topic.Refusals = []
@@ -123,7 +123,7 @@ example topic.Help = page (codes "help record" ∷ [])
 abbrev pub command_text : Topic → List ℕ
 command_text command = summary command ++ details command ++ page (codes "Example:" ∷ []) ++ example command
 
--- the text about all commands, about all refusals, and about each
+-- the text about the topic: all commands, one of them, all refusals, or one of them
 abbrev pub help_text : Topic → List ℕ
 help_text topic.Commands = flat_map summary commands
 help_text topic.Refusals = flat_map saying reasons

@@ -1,4 +1,4 @@
--- Loading commands: each is executed as in a conversation, and has to be done.
+-- Loading commands: each is executed as in a conversation, and has to succeed.
 use Rattle.std.specs.Prelude.{◌≡◌, ℕ, ◌+◌, Bool, true, false, ◌||◌, List, Option, Result, Ok, Err, codes}
 use Rattle.std.specs.List.{All, flat_map}
 use Rattle.std.specs.Io.KnownBytes.{Consumes}
@@ -19,7 +19,7 @@ reports_failure answer = begins (codes "fault ") answer || begins (codes "refuse
 abbrev pub ReportsSuccess : List ℕ → Type 0
 ReportsSuccess answer = reports_failure answer ≡ false
 
--- by the content of a reader, before and after
+-- given the contents of a reader, before and after
 module _ (remaining rest : Option (List ℕ)) where
   -- exactly these commands were read, and each was done
   pub record Done (first last : SessionState) : Type 0 where
@@ -28,7 +28,7 @@ module _ (remaining rest : Option (List ℕ)) where
     pub well : All (λ exchange. ReportsSuccess exchange.answer) exchanges
     pub reads : Consumes remaining rest (flat_map (λ exchange. exchange.command) exchanges)
 
-  -- the input has ended, and the last command, as far as it goes, was done
+  -- the input has ended, and its last command, which it may cut off, was done
   pub record EndsWell (before : SessionState) (now : Entries) : Type 0 where
     pub exchange : Exchange
     pub reads : ReadsCommand remaining rest false exchange.command
@@ -37,7 +37,7 @@ module _ (remaining rest : Option (List ℕ)) where
     pub well : ReportsSuccess exchange.answer
     pub same : now ≡ after.history
 
-  -- the command that begins at this line was read, and this is its answer: it was not done, and nothing has changed
+  -- the command that begins at this line was read and not done; this is its answer, and nothing has changed
   pub record Fails (before : SessionState) (line : ℕ) (answer : List ℕ) (now : Entries) : Type 0 where
     pub whole : Bool
     pub command : List ℕ
@@ -47,8 +47,7 @@ module _ (remaining rest : Option (List ℕ)) where
     pub at : line ≡ before.lines + 1
     pub same : now ≡ before.history
 
-  -- the command that begins at this line was read, and ran out of memory, itself or for its answer: nothing has
-  -- changed
+  -- the command that begins at this line was read, and memory ran out for it or for its answer; nothing has changed
   pub record LacksMemory (before : SessionState) (line : ℕ) (now : Entries) : Type 0 where
     pub whole : Bool
     pub command : List ℕ
@@ -64,8 +63,8 @@ module _ (remaining rest : Option (List ℕ)) where
   Ends before (Err (Memory line)) now = LacksMemory before line now
   Ends before (Err (Talk why)) now = ReadsNone remaining rest before why × (now ≡ before.history)
 
--- a load that begins with the accepted calls of a book, and before the first line: commands were done, one after the
--- other; Ok, and the input has ended, or else the next one was not done
+-- a load, which begins with the accepted calls of a book and before the first line: commands were done, one after the
+-- other; after Ok the input has ended, else the next command was not done
 pub record Loads (remaining rest : Option (List ℕ)) (history : Entries) (result : Result (Unit {0}) LoadFault) (now : Entries)
     : Type 0 where
   pub left : Option (List ℕ)

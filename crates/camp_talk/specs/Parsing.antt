@@ -22,70 +22,70 @@ use Rattle.camp_talk.specs.declared.questions.Topic.TheVariants as topic
 
 -- ---- the words of a question after its first
 
--- a branch and a name: one of a branch, or of a patch
+-- parses a branch and a name, which is of a branch or of a patch
 abbrev pub two_names : List (List ℕ) → Result (List ℕ × List ℕ) LineFault
 two_names words =
     two_words 1 words >>= λ pair. name_at 1 pair.0 >>= λ first. name_at 1 pair.1 >>= λ second. Ok (first, second)
 
--- a branch and a path
+-- parses a branch and a path
 abbrev pub branch_and_path : List (List ℕ) → Result (List ℕ × List ℕ) LineFault
 branch_and_path words =
     two_words 1 words >>= λ pair. name_at 1 pair.0 >>= λ branch. path_at 1 pair.1 >>= λ path. Ok (branch, path)
 
--- a branch, and at least one name
+-- parses a branch and at least one name
 abbrev pub branch_and_names : List (List ℕ) → Result (List ℕ × List (List ℕ)) LineFault
 branch_and_names (branch ∷ name ∷ names) =
     name_at 1 branch >>= λ branch. names_at 1 (name ∷ names) >>= λ names. Ok (branch, names)
 branch_and_names others = fault_at 1 WrongNumberOfWords
 
--- a branch, and any number of names
+-- parses a branch and any number of names
 abbrev pub branch_and_any_names : List (List ℕ) → Result (List ℕ × List (List ℕ)) LineFault
 branch_and_any_names (branch ∷ names) =
     name_at 1 branch >>= λ branch. names_at 1 names >>= λ names. Ok (branch, names)
 branch_and_any_names others = fault_at 1 WrongNumberOfWords
 
--- two branches, and at least one name
+-- parses two branches and at least one name
 abbrev pub branches_and_names : List (List ℕ) → Result (List ℕ × List ℕ × List (List ℕ)) LineFault
 branches_and_names (from ∷ to ∷ name ∷ names) =
     name_at 1 from >>= λ from. name_at 1 to >>= λ to. names_at 1 (name ∷ names) >>= λ names. Ok (from, to, names)
 branches_and_names others = fault_at 1 WrongNumberOfWords
 
--- a branch only
+-- parses a branch and nothing else
 abbrev pub branch_alone : List (List ℕ) → Result (List ℕ) LineFault
 branch_alone words = one_word 1 words >>= name_at 1
 
--- the first of some lines, or an empty one
+-- the first of some lines, or an empty one if there is none
 abbrev pub first_of : List (List ℕ) → List ℕ
 first_of [] = []
 first_of (first ∷ rest) = first
 
--- the first of some commands whose example begins with a word
+-- the first command whose example begins with this word
 abbrev pub first_begun : List ℕ → List Topic → Option Topic
 first_begun word commands = find (λ command. begins_with word (words_of (first_of (lines_of (example command))))) commands
 
--- a command that was found, or the fault of a word that begins none
+-- a command that was found, else the fault of a word that begins no command
 abbrev pub topic_of : Option Topic → Result Topic LineFault
 topic_of None = fault_at 1 UnknownCommand
 topic_of (Some command) = Ok command
 
--- the command that a word begins
+-- the command that begins with this word, or a fault
 abbrev pub topic_at : List ℕ → Result Topic LineFault
 topic_at word = topic_of (first_begun word commands)
 
--- the first of some reasons that has a number
+-- the first reason with this number
 abbrev pub first_numbered : List ℕ → List Reason → Option Reason
 first_numbered number reasons = find (λ reason. bytes_eq (reason_number reason) number) reasons
 
--- the reason of a number of a refusal
+-- the reason with this number of a refusal
 abbrev pub reason_at : List ℕ → Option Reason
 reason_at number = first_numbered number reasons
 
--- the refusal of a reason; a number without a reason is a bad one
+-- the topic of a reason; if there is none with the number, the number is a fault
 abbrev pub reason_topic : Option Reason → Result Topic LineFault
 reason_topic None = fault_at 1 BadNumber
 reason_topic (Some reason) = Ok (topic.Refusal reason)
 
--- the refusal for which `help refused NUMBER` asks
+-- the topic of `help refused NUMBER`
 abbrev pub refusal_topic : List ℕ → List ℕ → Result Topic LineFault
 refusal_topic word number =
     if bytes_eq word (codes "refused") then reason_topic (reason_at number) else fault_at 1 WrongNumberOfWords
@@ -94,16 +94,16 @@ refusal_topic word number =
 abbrev pub word_topic : List ℕ → Result Topic LineFault
 word_topic word = if bytes_eq word (codes "refused") then Ok topic.Refusals else topic_at word
 
--- the topic of help: a refusal, all refusals, one command, or else all commands
+-- the topic of help: a refusal, all refusals, one command, or all commands
 abbrev pub help_line : List (List ℕ) → Result Topic LineFault
 help_line [] = Ok topic.Commands
 help_line (word ∷ []) = word_topic word
 help_line (word ∷ number ∷ []) = refusal_topic word number
 help_line others = fault_at 1 WrongNumberOfWords
 
--- ---- the question of a first word and those after it, if they ask one
+-- ---- the question of a first word and the others, if it begins one
 
--- a question without a list of patches
+-- a question without a list of patches, by its first word
 abbrev pub plain_question : List ℕ → List (List ℕ) → Result (Option Question) LineFault
 plain_question word words =
     if bytes_eq word (codes "history") then (no_words 1 words >>= λ none. Ok (Some question.History))
@@ -112,7 +112,7 @@ plain_question word words =
     else (if bytes_eq word (codes "help") then (help_line words >>= λ topic. Ok (Some (question.Help topic)))
     else Ok None)))
 
--- one about conflicts, or about a file
+-- a question about conflicts or about a file, by its first word
 abbrev pub conflict_question : List ℕ → List (List ℕ) → Result (Option Question) LineFault
 conflict_question word words =
     if bytes_eq word (codes "open") then (branch_alone words >>= λ branch. Ok (Some (question.Open branch)))
@@ -124,7 +124,7 @@ conflict_question word words =
     then (branch_and_path words >>= λ pair. Ok (Some (question.File pair.0 pair.1)))
     else plain_question word words)))
 
--- one without a list of names
+-- a question without a list of names, by its first word
 abbrev pub short_question : List ℕ → List (List ℕ) → Result (Option Question) LineFault
 short_question word words =
     if bytes_eq word (codes "missing")
@@ -135,7 +135,7 @@ short_question word words =
     then (branch_and_path words >>= λ pair. Ok (Some (question.Annotate pair.0 pair.1)))
     else conflict_question word words))
 
--- any question but `whatif`
+-- any question but `whatif`, by its first word
 abbrev pub question_of : List ℕ → List (List ℕ) → Result (Option Question) LineFault
 question_of word words =
     if bytes_eq word (codes "needs")
@@ -150,14 +150,14 @@ question_of word words =
 
 -- ---- the parsed command
 
--- the call of a script of one section, if it has one; a line `client`, which begins another section, is not a command
--- of a conversation
+-- the call of a script, if it is one section with one call; the line `client`, which begins another section, is not a
+-- command of a conversation
 abbrev pub call_in : List (List Call) → Result (Option Call) LineFault
 call_in ((call ∷ calls) ∷ []) = Ok (Some call)
 call_in ([] ∷ []) = Ok None
 call_in sections = fault_at 1 UnknownCommand
 
--- the parsed command of a call, if there is one
+-- the parsed command for a call, or for none
 abbrev pub parsed_call : Option Call → ParsedCommand
 parsed_call None = parsed.Nothing
 parsed_call (Some call) = parsed.Call call
@@ -166,7 +166,7 @@ parsed_call (Some call) = parsed.Call call
 abbrev pub parsed_script : List (List Call) → Result ParsedCommand LineFault
 parsed_script script = call_in script >>= λ call. Ok (parsed_call call)
 
--- the question what a call would do; there must be one
+-- the question what a call would do; without a call it is a fault
 abbrev pub foreseen_call : Option Call → Result ParsedCommand LineFault
 foreseen_call None = fault_at 1 UnknownCommand
 foreseen_call (Some call) = Ok (parsed.Question (question.WhatIf call))
@@ -175,21 +175,21 @@ foreseen_call (Some call) = Ok (parsed.Question (question.WhatIf call))
 abbrev pub foreseen_in : List (List Call) → Result ParsedCommand LineFault
 foreseen_in script = call_in script >>= foreseen_call
 
--- the parsed command if the first word is not `whatif`: a question, or else the call of a script
+-- the parsed command if the first word is not `whatif`: a question, else the call of a script
 abbrev pub question_or_call : Result (List (List Call)) LineFault → Option Question → Result ParsedCommand LineFault
 question_or_call script None = script >>= parsed_script
 question_or_call script (Some question) = Ok (parsed.Question question)
 
--- a word asks for the diagnostic of the last fault or refusal; if that is a carriage return at the end of a line, it
--- has one too
+-- a word asks for the diagnostic of the last fault or refusal: `why`, perhaps with the carriage return of the line's
+-- end
 abbrev pub is_why : List ℕ → Bool
 is_why word = bytes_eq word (codes "why") || bytes_eq word (codes "why\r")
 
--- this question, if no word follows
+-- this question, if no word follows; else a fault
 abbrev pub why_of : List (List ℕ) → Result ParsedCommand LineFault
 why_of words = no_words 1 words >>= λ none. Ok parsed.Why
 
--- the parsed command, by the words of a first line, and the script of its call
+-- the parsed command, given the words of its first line and the script of its call
 abbrev pub parsed_words : List (List ℕ) → Result (List (List Call)) LineFault → Result ParsedCommand LineFault
 parsed_words [] script = script >>= parsed_script
 parsed_words (word ∷ words) script =

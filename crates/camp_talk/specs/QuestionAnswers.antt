@@ -1,4 +1,4 @@
--- The texts of answers to questions, each at the state after a history.
+-- The texts of answers to questions, each at the state that a history leads to.
 use Rattle.std.specs.Prelude.{◌≡◌, ℕ, List, [], ◌∷◌, ◌++◌, length, Option, None, Some, Ok, Err, codes}
 use Rattle.std.specs.List.{flat_map, zip}
 use Rattle.std.specs.Fmt.{decimal}
@@ -45,7 +45,7 @@ use Rattle.camp_talk.specs.declared.questions.Question.{Question}
 use Rattle.camp_talk.specs.declared.questions.Question.TheVariants as question
 use Rattle.camp_talk.specs.declared.questions.Topic.{Topic}
 
--- a text after the word of its command and the number of its lines
+-- a counted text: after a line with the word of its command and the number of its lines
 abbrev pub counted : List ℕ → List ℕ → List ℕ
 counted word text = word ++ space ∷ decimal (length (lines_of text)) ++ newline ∷ text
 
@@ -60,7 +60,7 @@ pub record RendersAnswer {A : Type 0} (text_of : A → List ℕ) (IsAnswer : Ans
   pub is_answer : IsAnswer answer
   pub reports : text ≡ answer_or_refusal text_of answer
 
--- names after the word of a command, each on a line
+-- names, each on a line, as a counted text
 abbrev pub names_answer : List ℕ → List (List ℕ) → List ℕ
 names_answer word names = counted word (flat_map name_text names)
 
@@ -68,30 +68,30 @@ names_answer word names = counted word (flat_map name_text names)
 abbrev pub no_file_answer : List ℕ
 no_file_answer = codes "no file\n"
 
--- the lines of a file, or that there is none
+-- the lines of a file as a counted text, or that there is no file
 abbrev pub file_answer : Option Lines → List ℕ
 file_answer None = no_file_answer
 file_answer (Some lines) = counted (codes "file") (flat_map (signed_line equals_sign) lines)
 
--- pairs of patches after a word
+-- pairs of patches as a counted text
 abbrev pub pairs_answer : List ℕ → List (List ℕ × List ℕ) → List ℕ
 pairs_answer word pairs = counted word (flat_map pair_text pairs)
 
--- pairs of patches in an unresolved conflict
+-- pairs of patches in an unresolved conflict as a counted text
 abbrev pub open_answer : List (List ℕ × List ℕ) → List ℕ
 open_answer pairs = pairs_answer (codes "open") pairs
 
--- the changes of a side, in the form of a group of a script
+-- the changes of a side, as those of a group in a script
 abbrev pub side_answer : List Primitive → List ℕ
 side_answer changes = counted (codes "side") (flat_map canonical_change changes)
 
--- a side of a hunk: `side`, the name of its patch and the number of its lines, followed by each after `+`
+-- a side of a hunk: `side`, the name of its patch and the number of its lines; then each line after `+`
 abbrev pub side_text : Version → List ℕ
 side_text side =
     line_text (codes "side" ∷ side.name ∷ decimal (length side.lines) ∷ [])
     ++ flat_map (signed_line plus_sign) side.lines
 
--- the context lines of a hunk, each after `=`; `conflict`, the number of its sides and of its lines; these, each
+-- the context lines of a hunk, each after `=`; `conflict`, the number of its sides and of its lines; these lines, each
 -- after `=`; and the sides
 abbrev pub conflict_hunk_text : MarkedHunk → List ℕ
 conflict_hunk_text place =
@@ -118,26 +118,26 @@ graph_answer picture = counted (codes "graph") (graph_text picture)
 abbrev pub annotated_line : List ℕ × List ℕ → List ℕ
 annotated_line pair = pair.1 ++ space ∷ signed_line equals_sign pair.0
 
--- the lines of a file with their names, or that there is no file
+-- the lines of a file with these names, or that there is no file
 abbrev pub annotated_answer : Annotated → List ℕ
 annotated_answer (File lines names) = counted (codes "annotate") (flat_map annotated_line (zip lines names))
 annotated_answer NoFile = no_file_answer
 
--- a catch in the notation of patches, on a line: each of its primitives as a whole
+-- a line with a catch in the notation of patches, each of its primitives as a whole
 abbrev pub catch_line : Catch → List ℕ
 catch_line catch = catch_text [] catch ++ newline ∷ []
 
--- a patch: its catches, followed by its changes, in the form of a group of a script
+-- a patch: its catches, and then its changes, as those of a group in a script
 abbrev pub patch_answer : PatchContents → List ℕ
 patch_answer patch = counted (codes "show") (flat_map catch_line patch.catches ++ flat_map canonical_change patch.changes)
 
--- the conflicts that would become unresolved, and those that would be resolved
+-- the conflicts that would become unresolved, and those that would no longer be
 abbrev pub changes_answer : BranchState → List ℕ
 changes_answer standing =
     pairs_answer (codes "opened") standing.opened ++ pairs_answer (codes "resolved") standing.resolved
 
--- the state of a branch: its conflicts, as the question for them is answered; what is changed about unresolved ones;
--- and its tree, as the question for it is answered
+-- the state of a branch: its conflicts, as the answer to the question for them; how unresolved ones change; and its
+-- tree, as the answer to the question for it
 abbrev pub standing_text : Option BranchState → List ℕ
 standing_text None = []
 standing_text (Some standing) = conflicts_text standing.conflicts ++ changes_answer standing ++ tree_text standing.tree
@@ -150,11 +150,11 @@ foreseen_answer seen = counted (codes "whatif") (reply_text seen.reply ++ standi
 abbrev pub keep_answer : List (ℕ × Call) → List ℕ
 keep_answer history = counted (codes "keep") (kept_text history)
 
--- the forms of commands, or the meanings of refusals
+-- the forms of commands, or the meanings of refusals, as a counted text
 abbrev pub help_answer : Topic → List ℕ
 help_answer topic = counted (codes "help") (help_text topic)
 
--- the answer to each question, at the state after a history
+-- the text of the answer to each question, at the state that a history leads to
 abbrev pub AnswersQuestionAt : List (ℕ × Call) → Contents → Question → List ℕ → Type 0
 AnswersQuestionAt history state (question.Needs branch names) text =
     RendersAnswer (names_answer (codes "needs")) (AreNeeded state branch names) text
@@ -180,7 +180,7 @@ AnswersQuestionAt history state question.History text = text ≡ history_text hi
 AnswersQuestionAt history state question.Keep text = text ≡ keep_answer history
 AnswersQuestionAt history state (question.Help topic) text = text ≡ help_answer topic
 
--- the answer to a question after a history
+-- the result of a question, at the state that a history leads to
 abbrev pub AnswersQuestion : Entries → Question → List ℕ → Type 0
 AnswersQuestion history question text =
     (state : Contents) × (replay_book repository history ≡ Some state) × AnswersQuestionAt history.calls state question text

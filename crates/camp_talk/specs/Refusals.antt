@@ -6,7 +6,7 @@ use Rattle.camp_talk.specs.Pages.{page}
 use Rattle.camp_talk.specs.declared.questions.Reason.{Reason}
 use Rattle.camp_talk.specs.declared.questions.Reason.TheVariants as reason
 
--- the reasons for refusals, in the order of their numbers
+-- the reasons of refusals, in the order of their numbers
 abbrev pub reasons : List Reason
 reasons =
     reason.BadName ∷ reason.BadPath ∷ reason.BadLine ∷ reason.NoBranch ∷ reason.BranchExists ∷ reason.PatchExists
@@ -26,7 +26,7 @@ reason_of (refusal.Diverged name) = reason.Diverged
 reason_of (refusal.NoMerge left right) = reason.NoMerge
 reason_of (refusal.SameBranch branch) = reason.SameBranch
 
--- its number
+-- the number of a reason
 abbrev pub reason_number : Reason → List ℕ
 reason_number reason.BadName = codes "1"
 reason_number reason.BadPath = codes "2"
@@ -60,7 +60,7 @@ saying reason.Diverged = page (codes "refused 12 NAME: in one branch NAME can't 
 saying reason.NoMerge = page (codes "refused 13 LEFT RIGHT: LEFT of TO and RIGHT of FROM do not merge" ∷ [])
 saying reason.SameBranch = page (codes "refused 14 BRANCH: a branch does not pull from itself" ∷ [])
 
--- the hint on it
+-- the hint on a reason
 abbrev pub cure : Reason → List ℕ
 cure reason.BadName = page (codes "A name has 1 to 40 characters of a to z, 0 to 9 and -, and does not begin with -." ∷ [])
 cure reason.BadPath = page (
@@ -85,6 +85,6 @@ cure reason.Diverged = page (codes "Obliterate it in one of them, with what depe
 cure reason.NoMerge = page (codes "Pull without RIGHT, or obliterate LEFT in TO first." ∷ [])
 cure reason.SameBranch = page (codes "Name another branch." ∷ [])
 
--- the text about a refusal
+-- the text about a reason: its form, its meaning and the hint
 abbrev pub refusal_text : Reason → List ℕ
 refusal_text reason = saying reason ++ cure reason

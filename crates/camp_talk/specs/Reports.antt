@@ -38,18 +38,18 @@ use Rattle.camp_why.specs.declared.stops.Hindrance.TheVariants as hindrance
 abbrev pub is_failure : List ℕ → Bool
 is_failure answer = begins (codes "fault ") answer || begins (codes "refused ") answer
 
--- the report on a diagnostic; if there is none, that there was no failure
+-- the report on a diagnostic; without one, that nothing has failed
 abbrev pub report_or_none : List ℕ → List ℕ
 report_or_none [] = page (codes "No command had a fault or was refused so far." ∷ [])
 report_or_none (byte ∷ bytes) = byte ∷ bytes
 
--- the same, after `why` and the number of its lines
+-- the same, as the counted text that answers `why`
 abbrev pub why_answer : List ℕ → List ℕ
 why_answer report = counted (codes "why") (report_or_none report)
 
 -- ---- of a command with a fault
 
--- text: the hint on the line
+-- text: the hint on a line
 abbrev pub hint_text : Hint → List ℕ
 hint_text seen.Nothing = []
 hint_text seen.OfBody = page (codes "It begins with - or +, as a line of a body does, but no body has begun." ∷ [])
@@ -82,7 +82,7 @@ hint_text seen.OldAfterNew = page (codes "An old line comes after a new one: wri
 hint_text seen.NoSign = page (
     codes "It has no sign, - or +. To end the body, write a line with just end." ∷ [])
 
--- text: the broken rule of a body or a group, or of a number of lines, and what to write
+-- text: the broken rule of a body or a group, or of a number of lines, and what to write instead
 abbrev pub body_rule : FaultKind → List ℕ
 body_rule kind.BadEdit = page (
     codes "A body has old lines, each after -, then new ones, each after +, at least one in" ∷
@@ -96,7 +96,7 @@ body_rule kind.BadGroup = page (
 body_rule kind.GroupNotEnded = page (codes "A group ends with a line with just done. Write it." ∷ [])
 body_rule other = []
 
--- text: the broken rule, and what to write
+-- text: the broken rule, and what to write instead
 abbrev pub rule : FaultKind → List ℕ
 rule kind.UnknownCommand = page (
     codes "A line begins with a command; a record has BRANCH, NAME, and then add, remove, edit or group:" ∷
@@ -113,11 +113,11 @@ rule kind.BadNumber = page (
 rule kind.BadLine = cure reason.BadLine
 rule other = body_rule other
 
--- the line of a number, counted from 1, or an empty one
+-- the line with this number, counted from 1, or an empty one
 abbrev pub line_at : ℕ → List (List ℕ) → List ℕ
 line_at number lines = first_of (drop (number - 1) lines)
 
--- the most bytes of a line that are shown
+-- the most bytes that are shown of a line
 abbrev pub most_shown : ℕ
 most_shown = 200
 
@@ -126,7 +126,7 @@ abbrev pub cut_text : List ℕ → List ℕ
 cut_text line =
     if nat_lt most_shown (length line) then page (codes "Only its first 200 bytes are shown." ∷ []) else []
 
--- a line after `>`, as much of it as is shown, by visible bytes
+-- a line after `>`: as much as is shown of it, in printable characters
 abbrev pub shown_line : List ℕ → List ℕ
 shown_line line = codes ">" ++ visible (take most_shown line) ++ codes "\n" ++ cut_text line
 
@@ -134,17 +134,17 @@ shown_line line = codes ">" ++ visible (take most_shown line) ++ codes "\n" ++ c
 abbrev pub no_name_text : List ℕ → List ℕ
 no_name_text word = codes "This is no name: " ++ visible word ++ codes "\n"
 
--- the same, if it is not too long to be shown
+-- the same, unless the word is too long to be shown
 abbrev pub misnamed_text : List ℕ → List ℕ
 misnamed_text word =
     if nat_lt most_shown (length word) then page (codes "A word of more than 200 bytes is no name." ∷ []) else no_name_text word
 
--- text: which word has the fault, if it is one of many
+-- text: which of several words has the fault
 abbrev pub word_report : FaultKind → List ℕ → List ℕ
 word_report kind.BadName line = misnamed_text (misnamed (words_of line))
 word_report other line = []
 
--- text: the lines after it are taken for its own, if it has some
+-- text: the lines after it are taken for its own, if lines may come
 abbrev pub recovery_text : Recovery → List ℕ
 recovery_text Nothing = []
 recovery_text Signed = []
@@ -152,31 +152,31 @@ recovery_text Body = page (codes "After it, lines that begin no command are take
 recovery_text Group = page (codes "After it, lines that begin no command are taken for its group, up to done." ∷ [])
 recovery_text GroupBody = page (codes "After it, lines that begin no command are taken for its group, up to done." ∷ [])
 
--- the answer, the line, the word that has the fault, the hint on it, the rule, what to write, and which lines after
--- it are taken for its own
+-- the answer, the line, the word that has the fault, the hint on it, the rule, what to write instead, and which lines
+-- after it are taken for its own
 abbrev pub fault_lines : FaultKind → List ℕ → List ℕ → Recovery → List ℕ
 fault_lines kind line answer recovery =
     answer ++ shown_line line ++ word_report kind line ++ hint_text (hint kind line) ++ rule kind ++ recovery_text recovery
 
 -- ---- of a command that is refused
 
--- a line without the white space at its end, including a carriage return
+-- a line without the blanks at its end, including a carriage return
 abbrev pub trimmed : List ℕ → List ℕ
 trimmed line = take (length line - suffix_len is_ascii_whitespace line) line
 
--- text: two lines differ only at their ends, if they do
+-- text: two lines differ only at their ends; empty if they differ elsewhere
 abbrev pub ends_text : List ℕ → List ℕ → List ℕ
 ends_text actual expected =
     if bytes_eq (trimmed actual) (trimmed expected)
     then page (codes "They differ in white space at their ends, such as a blank or a carriage return." ∷ []) else []
 
--- a text with the line of a file, and another one that an edit removes
+-- a text with the line of a file, and then the one that an edit removes
 abbrev pub met_lines : ℕ → List ℕ → List ℕ → List ℕ
 met_lines at actual expected =
     codes ": line " ++ decimal at ++ codes " is\n=" ++ actual ++ codes "\nand the edit takes away\n-" ++ expected
     ++ codes "\n"
 
--- text: the file has another line than an edit removes
+-- text: the file has this line where an edit removes another
 abbrev pub met_text : ℕ → List ℕ → List ℕ → List ℕ
 met_text at actual expected = met_lines at (visible actual) (visible expected)
 
@@ -184,8 +184,8 @@ met_text at actual expected = met_lines at (visible actual) (visible expected)
 abbrev pub two_numbers : List ℕ → ℕ → List ℕ → ℕ → List ℕ → List ℕ
 two_numbers front first middle second back = front ++ decimal first ++ middle ++ decimal second ++ back
 
--- text: the old line past the end of the file, and the line at which it would be; without old lines, that LINE is too
--- great
+-- text: the old line past the end of the file, and the line number that it would have; for an edit without old lines,
+-- that LINE is too great
 abbrev pub lacks_text : ℕ → Option (List ℕ) → List ℕ
 lacks_text at None = codes "LINE is " ++ decimal at ++ codes ": it is at most one more than the file has lines.\n"
 lacks_text at (Some line) =
@@ -207,15 +207,15 @@ hindrance_text (hindrance.Misfit why) = misfit_text why
 hindrance_text (hindrance.TooLong count) =
     codes ": it would have " ++ decimal count ++ codes " lines, and 1000000 is the most.\n"
 
--- the number of a change, and the path of its file
+-- text: the number of a change, and the path of its file
 abbrev pub change_report : ℕ → List ℕ → List ℕ
 change_report change path = codes "Change " ++ decimal change ++ codes ", file " ++ path
 
--- text: a number is the limit
+-- text: this number is the limit
 abbrev pub most_text : ℕ → List ℕ
 most_text most = decimal most ++ codes " is the most.\n"
 
--- text: what prevents a command; of a record that stops, where and why
+-- text: what prevents a command, given the cause; for a record that stops, at which change and why
 abbrev pub cause_text : Cause → List ℕ
 cause_text (cause.FullRepository count most) =
     two_numbers (codes "There are ") count (codes " branches, and ") most (codes " is the most.\n")
@@ -228,24 +228,24 @@ cause_text (cause.LongSide change path old new) =
     ++ two_numbers (codes ": the edit has ") old (codes " old lines and ") new (codes " new ones, and 65535 is the most of each.\n")
 cause_text (cause.Stops stop) = change_report stop.change stop.path ++ hindrance_text stop.why
 
--- the same, if its refusal does not say it all
+-- the same, if the refusal alone does not say why
 abbrev pub found_text : Option Cause → List ℕ
 found_text None = []
 found_text (Some found) = cause_text found
 
--- why a command is refused at a state, by the reason in its answer; for a question only what its refusal says
+-- why a command is refused at a state, given the reason in its answer; for a question only what its refusal says
 abbrev pub cause_found : Contents → ParsedCommand → Reason → Option Cause
 cause_found state (parsed.Call call) reason.TooLarge = explained state call refusal.TooLarge
 cause_found state (parsed.Call call) reason.DoesNotApply = explained state call refusal.DoesNotApply
 cause_found state other reason = None
 
--- the reason of a refusal, by the words of its answer: the number follows `refused`
+-- the reason of a refusal, parsed from its answer: its number follows `refused`
 abbrev pub reason_in : List (List ℕ) → Option Reason
 reason_in (word ∷ number ∷ names) = reason_at number
 reason_in others = None
 
--- text: what exists and what does not, in the state before the command: the subject of its refusal, by the cause that
--- was found
+-- text: what exists and what does not in the state before the command, as far as its refusal is about it, given the
+-- cause
 abbrev pub facts_text : Contents → ParsedCommand → Option Cause → Reason → List ℕ
 facts_text state parsed found reason.NoBranch = absent_sides state (about parsed) (target parsed) ++ branches_line state
 facts_text state parsed found reason.BranchExists = new_text state parsed ++ branches_line state
@@ -259,7 +259,7 @@ facts_text state parsed found other = found_text found
 abbrev pub against_text : Contents → ParsedCommand → Option Cause → Reason → List ℕ
 against_text state parsed found reason = sides_text (about parsed) (target parsed) ++ facts_text state parsed found reason
 
--- the hint if a limit would be exceeded
+-- the hint for a limit that would be exceeded
 abbrev pub limit_cure : Cause → List ℕ
 limit_cure (cause.FullRepository count most) = page (codes "Record in one of the existing branches." ∷ [])
 limit_cure (cause.FullBranch has more most) = page (
@@ -268,7 +268,7 @@ limit_cure (cause.FullWithPull has more most) = page (codes "Pull fewer patches,
 limit_cure (cause.LongSide change path old new) = page (codes "Split the edit." ∷ [])
 limit_cure (cause.Stops stop) = page (codes "Put some of the lines into another file." ∷ [])
 
--- the hint on the refusal of a command, by the cause that was found
+-- the hint on the refusal of a command, given the cause
 abbrev pub cure_at : Contents → ParsedCommand → Option Cause → Reason → List ℕ
 cure_at state parsed found reason.PatchExists = record_cure state parsed
 cure_at state parsed (Some found) reason.TooLarge = limit_cure found
@@ -280,38 +280,38 @@ abbrev pub refusal_report : Contents → ParsedCommand → List ℕ → List ℕ
 refusal_report state parsed line answer found reason =
     answer ++ shown_line line ++ saying reason ++ against_text state parsed found reason ++ cure_at state parsed found reason
 
--- the same by its reason; of an answer without one only itself
+-- the same, given its reason; without a reason only the answer
 abbrev pub refusal_lines : Contents → ParsedCommand → List ℕ → List ℕ → Option Reason → List ℕ
 refusal_lines state parsed line answer None = answer
 refusal_lines state parsed line answer (Some reason) =
     refusal_report state parsed line answer (cause_found state parsed reason) reason
 
--- ---- of both
+-- ---- faults and refusals
 
--- a kind is that of an unknown command
+-- this is the kind of an unknown command
 abbrev pub is_unknown : FaultKind → Bool
 is_unknown kind.UnknownCommand = true
 is_unknown other = false
 
--- a line with a fault of a kind begins no command
+-- a line with a fault of this kind begins no command
 abbrev pub is_no_command : FaultKind → List ℕ → Bool
 is_no_command kind line = is_unknown kind && not (begins_command line)
 
--- it is a record, or may be one whose first word is misspelt
+-- a line with a fault of this kind is a record, or may be one whose first word is misspelt
 abbrev pub may_record : FaultKind → List ℕ → Bool
 may_record kind line = is_record line || is_no_command kind line
 
--- the lines that may follow a command with a fault of a kind in the line of a number: if that is its first, those
--- that it was cut off from
+-- the kind of lines that may follow a command with this fault: if the fault is in its first line, those that the
+-- command was cut off from
 abbrev pub cut_off : ℕ → FaultKind → List ℕ → Recovery
 cut_off number kind line = if number == 1 && may_record kind line then recovery_of_line line else Nothing
 
--- a fault is the consequence of one before it: its line begins no command, and may be one of a body or a group that
+-- a fault is the consequence of one before it: its line begins no command, and may be a line of the body or group that
 -- was cut off
 abbrev pub is_consequence : Recovery → FaultKind → List ℕ → Bool
 is_consequence recovery kind line = may_be recovery line && is_no_command kind line
 
--- the diagnostic of a command with a fault of its own, and the lines that may follow it
+-- the diagnostic of a command with a fault of its own, and the kind of lines that may follow
 abbrev pub own_fault_diagnostic : LineFault → List (List ℕ) → List ℕ → Diagnostic
 own_fault_diagnostic fault lines answer =
     let recovery = cut_off fault.line fault.kind (first_of lines) in
@@ -324,8 +324,8 @@ fault_diagnostic before fault lines answer =
     if is_consequence before.recovery fault.kind (first_of lines) then advanced before (first_of lines)
     else own_fault_diagnostic fault lines answer
 
--- the diagnostic of a command that is not done, by the diagnostic before it, the state, its lines, its parsed form
--- and its answer
+-- the diagnostic after a command that is not done, given the diagnostic before it, the state, its lines, its parsed
+-- form and its answer
 abbrev pub diagnostic_with : Diagnostic → Contents → List (List ℕ) → Result ParsedCommand LineFault → List ℕ → Diagnostic
 diagnostic_with before state lines (Err fault) answer = fault_diagnostic before fault lines answer
 diagnostic_with before state lines (Ok parsed) answer = record {
@@ -333,6 +333,6 @@ diagnostic_with before state lines (Ok parsed) answer = record {
   recovery = Nothing;
 }
 
--- by the state, the command and its answer
+-- the diagnostic after a command, given the state, the command and its answer
 abbrev pub diagnostic_of : Diagnostic → Contents → List ℕ → List ℕ → Diagnostic
 diagnostic_of before state command answer = diagnostic_with before state (lines_in command) (parsed_command command) answer

@@ -1,4 +1,4 @@
--- The answer to a request: its bytes are a conversation of their own.
+-- The answer to a request, whose bytes are a conversation of their own.
 use Rattle.std.specs.Prelude.{◌≡◌, ◌⊎◌, ℕ, List, [], ◌++◌}
 use Rattle.std.specs.List.{flat_map}
 use Rattle.camp_talk.specs.Diagnostics.{no_diagnostic}
@@ -7,8 +7,8 @@ use Rattle.camp_talk.specs.Cutting.{IsCommand, IsLeft}
 use Rattle.camp_talk.specs.Entries.{Entries}
 use Rattle.camp_talk.specs.Talks.{AnswersInOrder, Exchange}
 
--- a request is commands, one after the other, and perhaps a last one cut off by its end; the answer is that of each,
--- in order. It begins with these accepted calls, and leaves those. Lines count from its start.
+-- a request is commands, one after the other, the last of which may be cut off by its end; the answer is the answer to
+-- each, in order. The request begins with these accepted calls, and leads to those. Lines are counted from its start.
 pub record AnswersRequest (history : Entries) (request answer : List ℕ) (now : Entries) : Type 0 where
   pub exchanges : List Exchange
   pub last : Exchange
@@ -21,7 +21,7 @@ pub record AnswersRequest (history : Entries) (request answer : List ℕ) (now :
   pub asks : request ≡ flat_map (λ exchange. exchange.command) exchanges ++ last.command
   pub reports : answer ≡ flat_map (λ exchange. exchange.answer) exchanges ++ last.answer
 
--- the next command of a request was executed, or what its end leaves of one, and a prefix of its answer is there
+-- the next command of a request was executed, perhaps cut off by the end, and a prefix of its answer was written
 pub record AsksOneMore (middle : SessionState) (rest front : List ℕ) (now : Entries) : Type 0 where
   pub last : Exchange
   pub more : List ℕ

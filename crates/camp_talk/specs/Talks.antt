@@ -14,43 +14,43 @@ pub record Exchange : Type 0 where
   pub command : List ℕ
   pub answer : List ℕ
 
--- a count of 64 bits has grown
+-- a count in 64 bits was increased without overflow
 pub record HasGrown (old new : ℕ) : Type 0 where
   pub rises : old < new
   pub counted : old < 2 ^ 64
 
--- known bytes grow by a prefix of a text
+-- known bytes were extended by a prefix of a text
 abbrev pub AppendsSome : Option (List ℕ) → Option (List ℕ) → List ℕ → Type 0
 AppendsSome old new text = (done : List ℕ) × (rest : List ℕ) × (text ≡ done ++ rest) × Appends old new done
 
--- by the content of a reader, before and after
+-- given the contents of a reader, before and after
 module _ (remaining rest : Option (List ℕ)) where
-  -- exactly a command was read: whole; or the input has ended, and this is what it left of one
+  -- exactly a command was read: a complete one; or what the end of the input left of one
   abbrev pub ReadsCommand : Bool → List ℕ → Type 0
   ReadsCommand true command = Consumes remaining rest command × IsCommand command
   ReadsCommand false command = Consumes remaining rest command × IsLeft command × OnSome remaining (IsAtEnd rest)
 
-  -- no more was read than a command has: all of it belongs to its first line
+  -- at most a command was read: all that was read belongs to its first line
   pub record ReadsWithin : Type 0 where
     pub some : List ℕ
     pub reads : Consumes remaining rest some
     pub is : IsLeft some
 
-  -- no more was read than a command has, and the line after it has no number below 2^64
+  -- at most a command was read, and the line after it would have the number 2^64
   pub record ReadsTooMuch (before : SessionState) : Type 0 where
     pub some : List ℕ
     pub reads : Consumes remaining rest some
     pub is : IsLeft some
     pub many : 2 ^ 64 ≤ before.lines + length (lines_of some) + 1
 
-  -- there is no command to execute: memory ran out for it, the reader failed, or its lines have no numbers
+  -- there is no command to execute: memory ran out for it, the reader failed, or its lines can't be counted
   abbrev pub ReadsNone : SessionState → TalkFault → Type 0
   ReadsNone before Memory = ReadsWithin
   ReadsNone before (Read error) = ReadsWithin
   ReadsNone before (Write error) = ⊥
   ReadsNone before Internal = ReadsTooMuch before
 
--- by that, and the content of a writer, before and after, if that is known
+-- given that, and the contents of a writer, before and after, if they are known
 module _ (remaining rest old new : Option (List ℕ)) where
   -- exactly a command was read, and exactly its answer was written
   pub record Exchanges (whole : Bool) (before after : SessionState) : Type 0 where
@@ -59,7 +59,7 @@ module _ (remaining rest old new : Option (List ℕ)) where
     pub answers : AnswersCommand before exchange.command exchange.answer after
     pub writes : Appends old new exchange.answer
 
-  -- a command was read and executed, and a prefix of its answer was written; its lines are not counted
+  -- a command was read and executed, but only a prefix of its answer was written; its lines are not counted
   pub record Stops (before after : SessionState) : Type 0 where
     pub whole : Bool
     pub exchange : Exchange
@@ -75,8 +75,8 @@ module _ (remaining rest old new : Option (List ℕ)) where
     pub keeps : Keeps old new
     pub same : after ≡ before
 
-  -- the step of one command. Ok: whether there may be more, or else the input has ended. Write: it was executed, and
-  -- its answer could not be written. Any other fault: none was executed.
+  -- a step with one command. Ok: true if there may be more, false if the input has ended. Write: the command was
+  -- executed, and its answer could not be written. Any other fault: no command was executed.
   abbrev pub TakesStep : SessionState → Result Bool TalkFault → SessionState → Type 0
   TakesStep before (Ok whole) after = Exchanges whole before after
   TakesStep before (Err Memory) after = Breaks before Memory after
@@ -84,7 +84,7 @@ module _ (remaining rest old new : Option (List ℕ)) where
   TakesStep before (Err (Write error)) after = Stops before after
   TakesStep before (Err Internal) after = Breaks before Internal after
 
--- commands are answered one after the other, from a session state
+-- commands are answered one after the other, beginning with this session state
 abbrev pub AnswersInOrder : SessionState → List Exchange → SessionState → Type 0
 AnswersInOrder first [] last = first ≡ last
 AnswersInOrder first (exchange ∷ others) last =
@@ -97,10 +97,10 @@ pub record HasAnswered (remaining rest old new : Option (List ℕ)) (first last 
   pub reads : Consumes remaining rest (flat_map (λ exchange. exchange.command) exchanges)
   pub writes : Appends old new (flat_map (λ exchange. exchange.answer) exchanges)
 
--- commands were answered one after the other, followed by a step with this result
+-- commands were answered one after the other, and then came a step with this result
 pub record EndsWithStep (remaining rest old new : Option (List ℕ)) (first : SessionState) (step_result : Result Bool TalkFault)
     (history : Entries) : Type 0 where
-  -- the rest of the reader, the content of the writer, and the session state before that step
+  -- the rest of the reader, what was written, and the session state, before that step
   pub left : Option (List ℕ)
   pub held : Option (List ℕ)
   pub middle : SessionState

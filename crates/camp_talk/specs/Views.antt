@@ -1,4 +1,4 @@
--- Requests to a view: a state is asked the commands of a request, and does not change.
+-- Requests to a view: the commands of a request are answered at a state, which does not change.
 use Rattle.std.specs.Prelude.{◌≡◌, ℕ, ◌+◌, Bool, true, false, List, [], ◌∷◌, ◌++◌, length, Result, Ok, Err, codes}
 use Rattle.std.specs.Fmt.{decimal}
 use Rattle.std.specs.List.{flat_map}
@@ -20,20 +20,20 @@ use Rattle.camp_talk.specs.declared.questions.ParsedCommand.TheVariants as parse
 use Rattle.camp_talk.specs.declared.questions.Question.{Question}
 use Rattle.camp_talk.specs.declared.questions.Question.TheVariants as question
 
--- a question asks about the history, which a state does not have
+-- a question asks about the history, which a view does not have
 abbrev pub is_of_history : Question → Bool
 is_of_history question.History = true
 is_of_history question.Keep = true
 is_of_history other = false
 
--- a command asks for more than a state has: it would write, or asks about the history or another command
+-- a view does not answer a command: it would write, or asks about the history or another command
 abbrev pub is_beyond : ParsedCommand → Bool
 is_beyond parsed.Nothing = false
 is_beyond (parsed.Call call) = is_writing call
 is_beyond (parsed.Question question) = is_of_history question
 is_beyond parsed.Why = true
 
--- the fault of such a command, by its line
+-- the fault of a command that a view does not answer, with its line
 abbrev pub beyond_text : ℕ → List ℕ
 beyond_text line = (codes "fault " ++ decimal line ++ codes " not asked of a view") ++ codes "\n"
 
@@ -41,26 +41,26 @@ beyond_text line = (codes "fault " ++ decimal line ++ codes " not asked of a vie
 abbrev pub shown_reply : Contents → Call → List ℕ
 shown_reply state call = reply_text (reply_of (step state call))
 
--- the answer of a state to a parsed command: nothing, if it asks nothing; to a call its reply; to a question its
--- answer, for which no history is needed; to another command there is none
+-- the answer of a view to a parsed command. Nothing: none; a call: its reply; a question: its answer, which needs no
+-- history; another command: none
 abbrev pub ShowsParsed : Contents → ParsedCommand → List ℕ → Type 0
 ShowsParsed state parsed.Nothing text = text ≡ []
 ShowsParsed state (parsed.Call call) text = text ≡ shown_reply state call
 ShowsParsed state (parsed.Question question) text = AnswersQuestionAt [] state question text
 ShowsParsed state parsed.Why text = ⊥
 
--- the parsed command of a line asks for more than a state has, or not
+-- whether a view does not answer the parsed command of a line
 abbrev pub ShowsAt : Bool → Contents → ℕ → ParsedCommand → List ℕ → Type 0
 ShowsAt true state line parsed text = text ≡ beyond_text line
 ShowsAt false state line parsed text = ShowsParsed state parsed text
 
--- the answer to a parsed command: a fault, by its line, counted from the start of the request; a fault of its own, if
--- it asks for more than a state has; else the answer of a conversation at this state
+-- the answer to a parsed command. A fault: its line, counted from the start of the request, and its kind; a command
+-- that a view does not answer: a fault of its own; any other: the answer of a conversation at this state
 abbrev pub ShowsAnswer : Contents → ℕ → Result ParsedCommand LineFault → List ℕ → Type 0
 ShowsAnswer state before (Err fault) text = text ≡ fault_text (before + fault.line) fault.kind
 ShowsAnswer state before (Ok parsed) text = ShowsAt (is_beyond parsed) state (before + 1) parsed text
 
--- a command is answered, given the number of lines before it; then its own are counted too
+-- a command is answered, given the number of lines before it, which its own lines increase
 pub record AnswersViewCommand (state : Contents) (before : ℕ) (exchange : Exchange) (after : ℕ) : Type 0 where
   pub shows : ShowsAnswer state before (parsed_command exchange.command) exchange.answer
   pub counts : after ≡ before + length (lines_of exchange.command)
@@ -71,8 +71,8 @@ SeesAll state first [] last = first ≡ last
 SeesAll state first (exchange ∷ others) last =
     (next : ℕ) × IsCommand exchange.command × AnswersViewCommand state first exchange next × SeesAll state next others last
 
--- a request is commands, one after the other, and perhaps a last one cut off by its end; the answer is that of each,
--- in order
+-- a request is commands, one after the other, the last of which may be cut off by its end; the answer is the answer to
+-- each, in order
 pub record AnswersView (state : Contents) (request answer : List ℕ) : Type 0 where
   pub exchanges : List Exchange
   pub last : Exchange

@@ -14,7 +14,7 @@ use camp_script::answer_text;
 use itoa::Buffer;
 use std::alloc::{AllocError, Global};
 
-/// Renders a text after the word of its command and the number of its lines.
+/// Renders a counted text: a line with the word of its command and the number of its lines, and then the text.
 pub(crate) fn counted(alloc: Global, word: &str, text: &[u8]) -> Result<Vec<u8>, AllocError>
     ensures { IfOk result (λ whole. whole.items ≡ counted word.now text.now) }
 {
@@ -23,7 +23,7 @@ pub(crate) fn counted(alloc: Global, word: &str, text: &[u8]) -> Result<Vec<u8>,
     joined(alloc, &[word.as_bytes(), b" ", lines, b"\n", text])
 }
 
-/// The same for a text that was made, unless memory ran out.
+/// Renders a counted text from a text, unless memory ran out for that text.
 pub(crate) fn counted_text(
     alloc: Global,
     word: &str,
@@ -34,7 +34,7 @@ pub(crate) fn counted_text(
     counted(alloc, word, &text?)
 }
 
-/// Returns the bytes of words that were made, unless memory ran out.
+/// Returns the bytes of words, unless memory ran out for them.
 pub(crate) fn made(words: Result<String, AllocError>) -> Result<Vec<u8>, AllocError>
     ensures { IfOk result (λ text. MatchResult words (λ words. text.items ≡ string_bytes words) (λ _. ⊥)) }
 {
@@ -48,7 +48,7 @@ pub(crate) fn joined(alloc: Global, parts: &[&[u8]]) -> Result<Vec<u8>, AllocErr
     parts.concat(alloc)
 }
 
-/// Joins a text and another one after it, unless memory ran out for one of them.
+/// Joins two texts, unless memory ran out for one of them.
 pub(crate) fn both(
     first: Result<Vec<u8>, AllocError>,
     second: Result<Vec<u8>, AllocError>,
@@ -72,7 +72,7 @@ pub(crate) fn append_parts(text: &mut Vec<u8>, parts: &[&[u8]]) -> Result<(), Al
     Ok(())
 }
 
-/// Renders the refusal of a question without an answer. Out of memory has no text.
+/// Renders the refusal of a question. Out of memory has no text.
 pub(crate) fn unanswered(alloc: Global, why: Unanswered) -> Result<Vec<u8>, AllocError>
     ensures { IfOk result (λ text. (refusal : SpecRefusal) × (why ≡ fault.Refused refusal) × (text.items ≡ reply_text (reply.Refused refusal))) }
 {

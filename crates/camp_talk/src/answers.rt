@@ -27,9 +27,9 @@ use std::alloc::{AllocError, Global};
 use std::io;
 use std::io::Write;
 
-/// Executes a command and renders its answer, given the number of the lines before it. If it is not done,
-/// `diagnostic` becomes its diagnostic. If memory runs out the book and the diagnostic stay; a command that asks
-/// nothing does not allocate.
+/// Executes a command and renders its answer, given the number of lines before it. If it is not done, `diagnostic`
+/// becomes its diagnostic. If memory runs out, the book and the diagnostic are unchanged; a command that asks nothing
+/// does not allocate.
 pub(crate) fn respond(
     alloc: Global,
     book: &mut Book<State>,
@@ -107,8 +107,8 @@ fn answer_parsed(
     }
 }
 
-// Executes a call and renders its reply. The text for an accepted call is made before it is executed, so that
-// no call is accepted without a report.
+// Executes a call and renders its reply. The text for an accepted call is made before the call is executed, so that no
+// call is accepted without a report.
 #[tactic(auto, using(crate::proofs::NotDone::want_keeps, crate::proofs::NotDone::next_number, crate::proofs::NotDone::never_busy, crate::proofs::NotDone::never_full))]
 fn reply(alloc: Global, book: &mut Book<State>, call: &Call) -> Result<Vec<u8>, AllocError>
     ensures text { IfOk result (λ text. Replies book.old call.now text.items book.new) }
@@ -126,7 +126,7 @@ fn reply(alloc: Global, book: &mut Book<State>, call: &Call) -> Result<Vec<u8>, 
     }
 }
 
-// Renders the reply to the next accepted call.
+// Renders the reply that the next accepted call gets.
 fn accepted_text(alloc: Global, book: &Book<State>) -> Result<Vec<u8>, AllocError>
     ensures { IfOk result (λ text. text.items ≡ answer_text (Ok (Reply.Done (length book.now.calls + 1)))) }
 {
@@ -134,7 +134,7 @@ fn accepted_text(alloc: Global, book: &Book<State>) -> Result<Vec<u8>, AllocErro
     answer_text(alloc, &Ok(Reply::Done(at)))
 }
 
-/// Renders the answer to a command with a fault, given the number of the lines before it.
+/// Renders the answer to a command with a fault, given the number of lines before it.
 pub(crate) fn fault_text(
     alloc: Global,
     before: u64,
@@ -149,8 +149,8 @@ pub(crate) fn fault_text(
     joined(alloc, &[b"fault ", line, b" ", kind, b"\n"])
 }
 
-/// Writes an answer and flushes it. An empty one is not flushed. If the writer fails, a prefix of the answer
-/// is written.
+/// Writes an answer and flushes it. An empty answer is not flushed. If the writer fails, a prefix of the answer was
+/// written.
 pub fn write_answer<W: Write>(writer: &mut W, text: &[u8]) -> io::Result<()>
     ensures writes { MatchResult result
         (λ _. Appends (W.contents writer.old) (W.contents writer.new) text.now)
@@ -164,7 +164,7 @@ pub fn write_answer<W: Write>(writer: &mut W, text: &[u8]) -> io::Result<()>
     Ok(())
 }
 
-/// Writes the answer to a command: a text, or out of memory.
+/// Writes the answer to a command: its text, or that memory ran out.
 pub(crate) fn write_answer_or_memory<W: Write>(
     writer: &mut W,
     response: &Result<Vec<u8>, AllocError>,

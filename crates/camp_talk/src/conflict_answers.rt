@@ -27,7 +27,7 @@ pub(crate) fn render_open(
     }
 }
 
-/// Renders pairs of patches after a word and the number of their lines.
+/// Renders pairs of patches as a counted text.
 pub(crate) fn render_pairs(
     alloc: Global,
     word: &str,

@@ -11,7 +11,7 @@ use std::marker::Model;
 pub struct Diagnostic {
     /// The lines that `why` shows; none if there was no fault and no refusal.
     report: Vec<u8>,
-    /// The lines of its command that may still come, if that was cut off by a fault in its first line.
+    /// The kind of lines that may still come of its command, if a fault in the first line cut them off.
     recovery: Recovery,
 }
 
@@ -24,7 +24,7 @@ impl Model for Diagnostic {
 }
 
 impl Diagnostic {
-    /// Starts without a fault or refusal.
+    /// Starts without a diagnostic.
     pub fn new(alloc: Global) -> Diagnostic
         ensures exact { result ≡ no_diagnostic }
     {
@@ -57,7 +57,7 @@ impl Diagnostic {
         self.recovery
     }
 
-    /// Returns the same after one more line of its command.
+    /// Returns the diagnostic after one more line of its command.
     pub(crate) fn advanced(&self, alloc: Global, line: &[u8]) -> Result<Diagnostic, AllocError>
         ensures { IfOk result (λ diagnostic. diagnostic ≡ advanced self.now line.now) }
     {
@@ -67,7 +67,7 @@ impl Diagnostic {
         )
     }
 
-    /// Closes it: no line of its command may come.
+    /// Ends recovery: no further lines of its command may come.
     pub(crate) fn close(&mut self)
         ensures { self.new ≡ closed self.old }
     {
@@ -75,7 +75,7 @@ impl Diagnostic {
     }
 }
 
-/// True if an answer leaves the state as it is: it is empty, or out of memory.
+/// True if an answer leaves the diagnostic unchanged: it is empty, or out of memory.
 pub(crate) fn leaves_diagnostic(answer: &[u8]) -> bool
     ensures { result ≡ leaves_diagnostic answer.now }
 {

@@ -1,4 +1,4 @@
-//! Steps that are taken one after the other.
+//! Sequences of steps.
 ghost use Rattle.std.specs.Prelude.{◌≡◌, ◌-◌, ◌^◌, ◌<◌, Bool, IfOk, Result, true, ℕ};
 ghost use Rattle.camp_talk.specs.Diagnostics.{no_diagnostic};
 ghost use Rattle.camp_talk.specs.Dialogues.{TakesSteps};
@@ -10,15 +10,15 @@ use camp_repo::{Book, State};
 use std::alloc::Global;
 use std::io::{BufRead, Write};
 
-/// A dialogue that is held step by step.
+/// A dialogue in steps.
 pub trait Dialogue {
-    /// Why it can't continue.
+    /// Why the dialogue can't continue.
     type Fault;
 
-    // The relation of a step: the state before it, its result, and the state after it.
+    // The relation of a step: between the state before it, its result, and the state after it.
     ghost step_relation: { Self → Result Bool Self.Fault → Self → Type 0 };
 
-    // The most steps that may still come.
+    // An upper bound for the number of steps that may still come.
     ghost left: { Self → ℕ };
 
     /// Takes one step. True if there may be more.
@@ -27,7 +27,7 @@ pub trait Dialogue {
         ensures fewer { IfOk result (λ more. more ≡ true → left self.new < left self.old) };
 }
 
-/// Takes steps, one after the other, until there is no more, or one fails.
+/// Takes steps until there are no more, or one fails.
 pub fn talk<D: Dialogue>(dialogue: &mut D) -> Result<(), D::Fault>
     ensures talks { TakesSteps D.step_relation dialogue.old result dialogue.new }
 {

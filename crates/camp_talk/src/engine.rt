@@ -1,5 +1,5 @@
-//! One loop for any backend and any framing: requests are read by a framing and executed by a backend in groups, each with one
-//! commit, and no response is written before the commit of its group.
+//! One loop for any backend and any framing: requests are read by the framing and executed by the backend, in groups
+//! with one commit each. No response is written before the commit of its group.
 mod backends;
 mod frames;
 mod framings;

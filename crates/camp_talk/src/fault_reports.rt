@@ -1,4 +1,4 @@
-//! Why a command with a fault was not done.
+//! The report on a command with a fault.
 ghost use Rattle.std.specs.Prelude.{◌≡◌, ◌++◌, IfOk, codes, take};
 ghost use Rattle.camp_script.specs.Lines.{lines_of};
 ghost use Rattle.camp_talk.specs.Reports.{body_rule, cut_off, cut_text, fault_diagnostic, fault_lines, hint_text, is_consequence, is_no_command, line_at, may_record, misnamed_text, most_shown, own_fault_diagnostic, recovery_text, rule, shown_line, word_report};
@@ -15,7 +15,7 @@ use camp_script::{FaultKind, LineFault, without_end};
 use camp_why::{Hint, find_hint, misnamed};
 use std::alloc::{AllocError, Global};
 
-/// The most bytes of a line that are shown.
+/// The most bytes that are shown of a line.
 const SHOWN: usize = 200;
 
 /// Makes the diagnostic of a command with a fault. If that is the consequence of a fault before it, the
@@ -36,7 +36,7 @@ pub(crate) fn fault_diagnostic(
     own_fault_diagnostic(alloc, fault, command, answer)
 }
 
-// Makes the diagnostic of a command with a fault of its own, with the lines that may follow it.
+// Makes the diagnostic of a command with a fault of its own, and the kind of lines that may follow.
 fn own_fault_diagnostic(
     alloc: Global,
     fault: &LineFault,
@@ -51,23 +51,23 @@ fn own_fault_diagnostic(
     Diagnostic::of(report, recovery)
 }
 
-// True if a fault is the consequence of one before it: its line begins no command, and may be one of a body
-// or a group that was cut off.
+// True if a fault is the consequence of one before it: its line begins no command, and may be a line of the body or
+// group that was cut off.
 fn is_consequence(recovery: Recovery, kind: FaultKind, line: &[u8]) -> bool
     ensures { result ≡ is_consequence recovery kind line.now }
 {
     recovery.may_be(line) && is_no_command(kind, line)
 }
 
-// True if a line with a fault of a kind begins no command.
+// True if a line with a fault of this kind begins no command.
 fn is_no_command(kind: FaultKind, line: &[u8]) -> bool
     ensures { result ≡ is_no_command kind line.now }
 {
     kind == FaultKind::UnknownCommand && !begins_command(line)
 }
 
-// Returns the lines that may follow a command with a fault of a kind in the line of a number: if that is its
-// first, those that it was cut off from.
+// Returns the kind of lines that may follow a command with this fault: if the fault is in its first line, those that
+// the command was cut off from.
 fn cut_off(number: u64, kind: FaultKind, line: &[u8]) -> Recovery
     ensures { result ≡ cut_off number kind line.now }
 {
@@ -77,14 +77,14 @@ fn cut_off(number: u64, kind: FaultKind, line: &[u8]) -> Recovery
     Recovery::Nothing
 }
 
-// True if a line with a fault of a kind is a record, or may be one whose first word is misspelt.
+// True if a line with a fault of this kind is a record, or may be one whose first word is misspelt.
 fn may_record(kind: FaultKind, line: &[u8]) -> bool
     ensures { result ≡ may_record kind line.now }
 {
     is_record(line) || is_no_command(kind, line)
 }
 
-// Returns the line of a number, counted from 1, or an empty one.
+// Returns the line with this number, counted from 1, or an empty one.
 fn line_at(command: &[u8], number: u64) -> &[u8]
     ensures { result.now ≡ line_at number (lines_of command.now) }
 {
@@ -95,8 +95,8 @@ fn line_at(command: &[u8], number: u64) -> &[u8]
     }
 }
 
-// Renders the report on a command with a fault: its answer, the line, the hint on it, the rule, what to
-// write, and which lines after it are taken for its own.
+// Renders the report on a command with a fault: its answer, the line, the hint on it, the rule, what to write instead,
+// and which lines after it are taken for its own.
 fn fault_lines(
     alloc: Global,
     kind: FaultKind,
@@ -116,7 +116,7 @@ fn fault_lines(
     both(front, rules)
 }
 
-// Renders that the lines after it are taken for its own, if it has some.
+// Renders that the lines after it are taken for its own, if lines may come.
 fn recovery_text(recovery: Recovery) -> &'static str
     ensures { result.now ≡ recovery_text recovery }
 {
@@ -131,8 +131,7 @@ fn recovery_text(recovery: Recovery) -> &'static str
     }
 }
 
-/// Renders an answer, followed by the line of its command after `>`, as much of it as is shown, by visible
-/// bytes.
+/// Renders an answer, and then the line of its command after `>`: as much as is shown of it, in printable characters.
 pub(crate) fn with_line(alloc: Global, answer: &[u8], line: &[u8]) -> Result<Vec<u8>, AllocError>
     ensures { IfOk result (λ text. text.items ≡ answer.now ++ shown_line line.now) }
 {
@@ -141,15 +140,14 @@ pub(crate) fn with_line(alloc: Global, answer: &[u8], line: &[u8]) -> Result<Vec
     joined(alloc, &[answer, b">", start.as_slice(), end])
 }
 
-// Returns the start of a line, as much as is shown.
+// Returns as many bytes of a line as are shown.
 fn shown(line: &[u8]) -> &[u8]
     ensures { result.now ≡ take most_shown line.now }
 {
     &line[..SHOWN.min(line.len())]
 }
 
-// Renders what follows the start of a line that is shown: a line feed and, if the line has more bytes, that
-// it has.
+// Renders what follows the shown part of a line: a line feed and, if the line has more bytes, a note that it has.
 fn shown_end(line: &[u8]) -> &str
     ensures { result.now ≡ codes "\n" ++ cut_text line.now }
 {
@@ -159,7 +157,7 @@ fn shown_end(line: &[u8]) -> &str
     "\n"
 }
 
-// Renders which word has the fault, if it is one of many.
+// Renders which of several words has the fault.
 fn word_report(alloc: Global, kind: FaultKind, line: &[u8]) -> Result<Vec<u8>, AllocError>
     ensures { IfOk result (λ text. text.items ≡ word_report kind line.now) }
 {
@@ -193,7 +191,7 @@ const TOO_FAR: &str = "The edit reaches too far: LINE plus the lines of both sid
 // Renders that a line of a body has no sign.
 const NO_SIGN: &str = "It has no sign, - or +. To end the body, write a line with just end.\n";
 
-// Renders the hint on the line.
+// Renders the hint on a line.
 fn hint_text(hint: Hint) -> &'static str
     ensures { result.now ≡ hint_text hint }
 {
@@ -234,7 +232,7 @@ fn hint_text(hint: Hint) -> &'static str
     }
 }
 
-// Renders the broken rule, and what to write.
+// Renders the broken rule, and what to write instead.
 fn rule(kind: FaultKind) -> &'static str
     ensures { result.now ≡ rule kind }
 {
@@ -259,7 +257,7 @@ fn rule(kind: FaultKind) -> &'static str
     }
 }
 
-// Renders the broken rule of a body or a group, or of a number of lines, and what to write.
+// Renders the broken rule of a body or a group, or of a number of lines, and what to write instead.
 fn body_rule(kind: FaultKind) -> &'static str
     ensures { result.now ≡ body_rule kind }
 {

@@ -10,18 +10,18 @@ use std::{fmt, io};
 /// Why a conversation ended before its input did.
 #[derive(Clone, Copy, Debug)]
 pub enum TalkFault {
-    /// The lines of a command ran out of memory.
+    /// Memory ran out for the lines of a command.
     Memory,
     /// The reader failed, with this error.
     Read(io::Error),
     /// The writer failed, with this error. A prefix of an answer was written.
     Write(io::Error),
-    /// A line has no number below 2^64. No conversation reaches that.
+    /// The line number would be 2^64. No conversation reaches that.
     Internal,
 }
 
 impl TalkFault {
-    /// Returns the exit status of a program that ends with it.
+    /// Returns the exit status of a program that ends with this fault.
     pub fn status(&self) -> u8
         ensures exact { result ≡ fault_status self.now }
     {
@@ -47,19 +47,19 @@ impl fmt::Display for TalkFault {
 
 impl Error for TalkFault {}
 
-/// Why a load ended before its input did. Lines count from 1.
+/// Why a load ended before its input did. Lines are counted from 1.
 #[derive(Debug, Drop)]
 pub enum LoadFault {
-    /// The command that begins at this line was answered by this text, which is a fault or a refusal.
+    /// The command that begins at this line was not done; its answer is a fault or a refusal.
     Answer { line: u64, text: Vec<u8> },
-    /// The command that begins at this line, or its answer, ran out of memory.
+    /// Memory ran out for the command that begins at this line, or for its answer.
     Memory { line: u64 },
     /// The next command could not be read.
     Talk(TalkFault),
 }
 
 impl LoadFault {
-    /// Returns the exit status of a program that ends with it.
+    /// Returns the exit status of a program that ends with this fault.
     pub fn status(&self) -> u8
         ensures exact { result ≡ load_status self.now }
     {

@@ -21,12 +21,12 @@ pub enum FrameFault {
     TooLarge,
     /// The input ended within a request, or within the line before it.
     Cut,
-    /// A request could not be read or not be answered, or its answer not be written.
+    /// A request could not be read or answered, or its answer could not be written.
     Talk(TalkFault),
 }
 
 impl FrameFault {
-    /// Returns the exit status of a program that ends with it.
+    /// Returns the exit status of a program that ends with this fault.
     pub fn status(&self) -> u8
         ensures exact { result ≡ frame_status self.now }
     {
@@ -62,7 +62,7 @@ impl From<TalkFault> for FrameFault {
     }
 }
 
-/// Requests in frames: they are answered over a book, one after the other.
+/// A conversation in frames over a book: its requests are answered one after the other.
 #[derive(Drop)]
 pub struct FramedConversation<R, W> {
     alloc: Global,

@@ -47,7 +47,7 @@ fn all_summaries(alloc: Global) -> Result<Vec<u8>, AllocError>
     Ok(text)
 }
 
-/// The commands, in the order of the text.
+/// Returns the commands, in the order of the help text.
 pub(crate) fn commands() -> [Topic; 24]
     ensures { result ≡ commands }
 {
@@ -91,7 +91,7 @@ const HELP_FORMS: &str = "help: all commands\n\
     help refused: what each refusal means\n\
     help refused NUMBER: one of them, and what can be done\n";
 
-// Returns the form of a command, and what it does, in a line for each of its forms.
+// Returns the form of a command, and what it does: a line for each of its forms.
 fn summary(topic: Topic) -> &'static str
     ensures { result.now ≡ summary topic }
 {

@@ -1,4 +1,4 @@
-//! Laws of answers: counts, failures, diagnostics, requests, and loading what `keep` writes.
+//! The laws of answers: counts, failures, diagnostics, requests, and loading the output of `keep`.
 ghost use Rattle.camp_talk.specs.Laws.{CausesAreReported, CountsMatchLines, FailuresAreReported, FaultsAreDescribed, KeepRestoresHistory, RecoveryFollowsCutOff, RefusalsAreDescribed, RequestsAreServedInTurn, UnservedBytesHaveNoFrame};
 ghost use Rattle.camp_talk.specs.Visible.{ShownBytesArePrintable};
 
@@ -8,54 +8,54 @@ pub fn counts_match_lines()
     ensures law { CountsMatchLines }
 {}
 
-/// An answer is a failure exactly if its command has a fault, it is a refusal, or memory ran out.
+/// An answer reports a failure exactly if its command has a fault, or it is a refusal or out of memory.
 #[tactic(auto, using(crate::proofs::Failing::failures_are_reported))]
 pub fn failures_are_reported()
     ensures law { FailuresAreReported }
 {}
 
-/// If requests are served one after the other, as by the steps of a framed conversation, the n-th answer that
-/// was written is that of the n-th request that was read, after the requests before it.
+/// If requests are served one after the other, the n-th answer that was written is that of the n-th request that was
+/// read, executed after the requests before it.
 #[tactic(auto, using(crate::proofs::Served::served_in_turn))]
 pub fn requests_are_served_in_turn()
     ensures law { RequestsAreServedInTurn }
 {}
 
-/// `load` restores what `keep` wrote of a history, or `kept_text` made: its calls are accepted again, and
-/// lead to its state, however many they are. A load that does not end has accepted the first of them.
+/// `load` restores a history from the output of `keep` or `kept_text`: its calls are accepted again and lead to its
+/// state, however many they are. A load that fails has accepted the first of them.
 pub fn keep_restores_history()
     ensures law { KeepRestoresHistory }
 {}
 
-/// If a call is refused because of a limit or its changes, the lines of `why` give a cause.
+/// If a call is refused because of a limit or its changes, the answer to `why` gives a cause.
 pub fn causes_are_reported()
     ensures law { CausesAreReported }
 {}
 
-/// If a call is refused, the lines of `why` describe that refusal, and what it says is true.
+/// If a call is refused, the answer to `why` describes that refusal, and what it says is true.
 pub fn refusals_are_described()
     ensures law { RefusalsAreDescribed }
 {}
 
-/// If a command has a fault of its own, the lines of `why` describe the line that has it.
+/// If a command has a fault of its own, the answer to `why` describes the line that has it.
 pub fn faults_are_described()
     ensures law { FaultsAreDescribed }
 {}
 
-/// The diagnostic waits for lines of a body or a group only if a record was cut off by a fault in its first
-/// line, or a line that may be one was no command, and each command after it is one of these lines.
+/// The diagnostic waits for lines of a body or a group only if a fault in the first line cut off a record, or what may
+/// be one, and each command since then is one of those lines.
 pub fn recovery_follows_cut_off()
     ensures law { RecoveryFollowsCutOff }
 {}
 
-/// A line that is no number of bytes, or too great a one, begins no frame; and what is read of a frame that
-/// is not whole has no whole one at its front. So no whole request is read and left unanswered at a fault.
+/// A line that is no number of bytes, or too great a one, begins no frame; and what was read of an incomplete frame
+/// does not begin with a complete one. So no complete request is read and left unanswered because of a fault.
 #[tactic(auto, using(crate::proofs::FrameLemmas::unserved_bytes_have_no_frame))]
 pub fn unserved_bytes_have_no_frame()
     ensures law { UnservedBytesHaveNoFrame }
 {}
 
-/// Bytes of a command or a file that `why` shows are printable ASCII characters, whatever they are.
+/// Bytes of a command or a file that `why` shows are printable ASCII characters.
 #[tactic(auto, using(crate::proofs::VisibleLemmas::shown_bytes_are_printable))]
 pub fn shown_bytes_are_printable()
     ensures law { ShownBytesArePrintable }

@@ -11,27 +11,27 @@ ghost use Rattle.camp_talk.specs.declared.faults.TalkFault.TheVariants as fault;
 use crate::TalkFault;
 use std::io::{self, BufRead, ErrorKind};
 
-/// The most bytes of a line that is read whole.
+/// The most bytes of a line that is read completely.
 const LONGEST_READ: usize = 1_048_576;
 
-// A line of this many bytes is too long.
+// The length from which on a line is too long, in bytes.
 const TOO_LONG: usize = LONGEST_READ + 1;
 
-// Bytes that are read of a line that is too long.
+// The number of bytes that are read of a line that is too long.
 const CUT_LINE: usize = 4_098;
 
 /// What a reader shows of a line.
 #[derive(Clone, Copy)]
 pub(crate) enum Seen {
-    /// A part, and more may follow.
+    /// A part; more may follow.
     Part,
-    /// The line, and its line feed.
+    /// The line with its line feed.
     Line,
     /// No more: the input has ended.
     End,
 }
 
-/// Appends a line. True if it has a line feed; else the input has ended.
+/// Appends a line. True if it has a line feed, false if the input has ended.
 pub(crate) fn read_line<R: BufRead>(reader: &mut R, text: &mut Vec<u8>) -> Result<bool, TalkFault>
     ensures line { IfOk result (λ whole.
         ReadsLine (R.remaining reader.old) (R.remaining reader.new) whole text.old.items text.new.items) }
@@ -50,8 +50,8 @@ pub(crate) fn read_line<R: BufRead>(reader: &mut R, text: &mut Vec<u8>) -> Resul
     }
 }
 
-/// Reads a line with its line feed. Appends enough of it to show whether it is too long. True if it has a
-/// line feed; else the input has ended.
+/// Reads a line with its line feed. Appends as many bytes of it as show whether it is too long. True if it has a line
+/// feed, false if the input has ended.
 pub(crate) fn read_front<R: BufRead>(reader: &mut R, text: &mut Vec<u8>) -> Result<bool, TalkFault>
     ensures front { IfOk result (λ whole. Takes (R.remaining reader.old) (R.remaining reader.new)
         (longest_read + 1) (last_seen whole) text.old.items text.new.items) }
@@ -70,8 +70,7 @@ pub(crate) fn read_front<R: BufRead>(reader: &mut R, text: &mut Vec<u8>) -> Resu
     Err(TalkFault::Read(ErrorKind::TimedOut.into()))
 }
 
-// Reads what the reader shows of a line, with its line feed if it shows that. Appends as much of the line as
-// fits.
+// Reads what the reader shows of a line, with its line feed if that is shown. Appends as much of the line as fits.
 fn read_some<R: BufRead>(
     reader: &mut R,
     text: &mut Vec<u8>,
@@ -135,7 +134,7 @@ pub(crate) fn line_len(shown: &[u8]) -> usize
         .unwrap_or(shown.len())
 }
 
-// Returns what is shown, given the number of bytes that are shown and the number of those before a line feed.
+// Returns what is shown, given the number of bytes that are shown and of those before a line feed.
 fn seen_of(shown: usize, len: usize) -> Seen
     ensures { result ≡ seen_of shown len }
 {
@@ -148,7 +147,7 @@ fn seen_of(shown: usize, len: usize) -> Seen
     Seen::Part
 }
 
-// Returns how many bytes of a line are taken, with its line feed if that was shown.
+// Returns the number of bytes to take of a line, with its line feed if that was shown.
 fn taken_len(len: usize, seen: Seen) -> usize
     requires { len < 2 ^ 64 - 1 }
     ensures { result ≡ len + length (feed_of seen) }
@@ -159,7 +158,7 @@ fn taken_len(len: usize, seen: Seen) -> usize
     }
 }
 
-// Shortens the line that begins at an index, if it is too long.
+// Shortens the line that begins at an index if it is too long.
 fn cut_line(text: &mut Vec<u8>, start: usize)
     requires { start ≤ length text.old.items }
     ensures { text.new.items ≡ take start text.old.items ++ as_read (drop start text.old.items) }

@@ -1,4 +1,4 @@
-//! Loading commands: each has to be done.
+//! Loading commands, each of which has to succeed.
 ghost use Rattle.std.specs.Prelude.{◌≡◌, true, IfOk};
 ghost use Rattle.camp_talk.specs.Inside.ExecutingNext.{LoadsOne};
 ghost use Rattle.camp_talk.specs.Loads.{Loads, reports_failure};
@@ -10,8 +10,8 @@ use camp_repo::{Book, State};
 use std::alloc::Global;
 use std::io::BufRead;
 
-/// Executes the commands of a reader on a book at seat 0, one after the other, until the input ends or one is
-/// not done. Only the answer that says so is kept.
+/// Executes the commands of a reader on a book at seat 0, one after the other, until the input ends or one is not done.
+/// Answers are dropped; that of a command that is not done is the error.
 pub fn load<R: BufRead>(
     alloc: Global,
     book: &mut Book<State>,
@@ -25,7 +25,7 @@ pub fn load<R: BufRead>(
     Ok(())
 }
 
-// Loads a command. True if there may be more; else the input has ended. `lines` counts those that were read.
+// Loads a command. True if there may be more, false if the input has ended. `lines` counts the lines that were read.
 fn load_one<R: BufRead>(
     alloc: Global,
     book: &mut Book<State>,

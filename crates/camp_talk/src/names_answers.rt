@@ -1,4 +1,4 @@
-//! Questions that are answered with names, as texts.
+//! The names that answer a question, as text.
 ghost use Rattle.std.specs.Prelude.{◌≡◌, codes, IfOk};
 ghost use Rattle.camp_questions.specs.Files.{branch_names};
 ghost use Rattle.camp_talk.specs.Inside.Responses.{RendersFound};
@@ -10,7 +10,7 @@ use camp_repo::{Names, State};
 use camp_script::append_names;
 use std::alloc::{AllocError, Global};
 
-/// Renders the names that answer a question, after the word of its command.
+/// Renders the names that answer a question as a counted text.
 pub(crate) fn render_found(
     alloc: Global,
     word: &str,
@@ -32,7 +32,7 @@ pub(crate) fn render_branches(alloc: Global, state: &State) -> Result<Vec<u8>, A
     render_names(alloc, "branches", &names)
 }
 
-// Renders names after the word of their command.
+// Renders names as a counted text.
 fn render_names(alloc: Global, word: &str, names: &Names) -> Result<Vec<u8>, AllocError>
     ensures { IfOk result (λ text. text.items ≡ names_answer word.now names.now) }
 {

@@ -1,4 +1,4 @@
-//! What prevents a command that is refused: the branches that it names, and what exists and what does not.
+//! What prevents a refused command: the branches that it names, and what exists and what does not.
 ghost use Rattle.std.specs.List.{flat_map};
 ghost use Rattle.std.specs.Prelude.{◌≡◌, ◌++◌, IfOk, OnOk, Some, codes, take};
 ghost use Rattle.camp_talk.specs.Obstacles.{about, absent_sides, absent_text, branches_line, depends_cure, had_text, holders, holders_line, holds, lack_line, lack_text, lacked_text, lacks, more_names, most_names, names_line, new_text, nothing_text, other_target, record_cure, recorded_text, role_word, sides_text, target};
@@ -11,7 +11,7 @@ use camp_call::Call;
 use camp_repo::{Branch, State};
 use std::alloc::{AllocError, Global};
 
-/// The most names on a line.
+/// The most names that are shown on a line.
 const MOST_NAMES: usize = 20;
 
 /// Where a command names a branch: as FROM, or as BRANCH.
@@ -21,7 +21,7 @@ pub(crate) enum BranchRole {
     Branch,
 }
 
-/// Renders the branches that a command names as FROM, as BRANCH and as TO.
+/// Renders which branches the words FROM, BRANCH and TO of a command mean.
 pub(crate) fn render_sides(alloc: Global, parsed: &ParsedCommand) -> Result<Vec<u8>, AllocError>
     ensures { IfOk result (λ text. text.items ≡ sides_text (about parsed.now) (target parsed.now)) }
 {
@@ -36,7 +36,7 @@ pub(crate) fn render_sides(alloc: Global, parsed: &ParsedCommand) -> Result<Vec<
     joined(alloc, &[role, b" is ", from, b", and TO is ", to, b".\n"])
 }
 
-/// Renders those of the branches that a command names that do not exist; and the branches that do.
+/// Renders those branches that a command names and that do not exist, and then the branches that do.
 pub(crate) fn render_absent(
     alloc: Global,
     state: &State,
@@ -57,7 +57,7 @@ pub(crate) fn render_absent(
     both(Ok(text), render_branches(alloc, state))
 }
 
-/// Renders that the branch that a call would create exists; and the branches.
+/// Renders that the branch that a call would create exists already, and then the branches.
 pub(crate) fn render_new(
     alloc: Global,
     state: &State,
@@ -112,7 +112,7 @@ pub(crate) fn render_lacked(
     }
 }
 
-/// Renders the patches of FROM that a pull would bring, if TO has all.
+/// Renders the patches of FROM that a pull would add, if TO has all of them.
 pub(crate) fn render_nothing(
     alloc: Global,
     state: &State,
@@ -144,7 +144,7 @@ fn had_text(alloc: Global, names: &[Name]) -> Result<Vec<u8>, AllocError>
     names_line(alloc, &[b"TO has already:"], names)
 }
 
-/// Renders the hint if the patch exists that a call would record.
+/// Renders the hint for a patch to be recorded that exists already.
 pub(crate) fn record_cure(state: &State, parsed: &ParsedCommand) -> &'static str
     ensures { result.now ≡ record_cure state.now parsed.now }
 {
@@ -159,7 +159,7 @@ pub(crate) fn record_cure(state: &State, parsed: &ParsedCommand) -> &'static str
     }
 }
 
-/// Renders the hint if one patch depends on another.
+/// Renders the hint for a patch that depends on another.
 pub(crate) fn depends_cure(parsed: &ParsedCommand) -> &'static str
     ensures { result.now ≡ depends_cure parsed.now }
 {
@@ -171,7 +171,7 @@ pub(crate) fn depends_cure(parsed: &ParsedCommand) -> &'static str
     }
 }
 
-// Returns the branch TO, if it is another one than the branch that a command is about.
+// Returns the branch TO, if it differs from the first branch of the command.
 fn other_target(named: &Option<(BranchRole, Name)>, to: Option<Name>) -> Option<Name>
     ensures { result ≡ other_target named.now to }
 {
@@ -264,7 +264,7 @@ fn lacks(branch: &Branch, parsed: &ParsedCommand) -> Option<Name>
     }
 }
 
-// Appends that there is no branch of a name, if there is none.
+// Appends that there is no branch of a name, unless there is one.
 fn append_absent(text: &mut Vec<u8>, state: &State, branch: &Name) -> Result<(), AllocError>
     ensures { OnOk result (text.new.items ≡ text.old.items ++ absent_text state.now branch.now) }
 {
@@ -274,7 +274,7 @@ fn append_absent(text: &mut Vec<u8>, state: &State, branch: &Name) -> Result<(),
     append_parts(text, &[b"There is no branch ", branch.bytes(), b".\n"])
 }
 
-// Appends that the branch that a call would create exists, if it does.
+// Appends that the branch that a call would create exists already, if it does.
 fn new_text(alloc: Global, state: &State, parsed: &ParsedCommand) -> Result<Vec<u8>, AllocError>
     ensures { IfOk result (λ text. text.items ≡ new_text state.now parsed.now) }
 {
@@ -346,7 +346,7 @@ fn holders_line(alloc: Global, patch: &Name, branches: &[Name]) -> Result<Vec<u8
     names_line(alloc, &[b"Branches with ", patch.bytes(), b":"], branches)
 }
 
-// Appends words followed by names: at most a limit, then `..` if there are more.
+// Appends words and then names: as many as are shown on a line, then `..` if there are more.
 fn names_line(alloc: Global, words: &[&[u8]], names: &[Name]) -> Result<Vec<u8>, AllocError>
     ensures { IfOk result (λ text. text.items ≡ names_line (flat_map (λ part. part.now) words.now) names.now) }
 {
@@ -359,7 +359,7 @@ fn names_line(alloc: Global, words: &[&[u8]], names: &[Name]) -> Result<Vec<u8>,
     Ok(text)
 }
 
-// Appends that there are more names than are shown, if there are, and the end of the line.
+// Appends the end of a line of names: first `..` if there are more names than are shown.
 fn more_names(names: &[Name]) -> &'static str
     ensures { result.now ≡ more_names names.now ++ codes "\n" }
 {

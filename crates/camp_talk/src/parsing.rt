@@ -13,7 +13,7 @@ use camp_call::Call;
 use camp_script::{FaultKind, Script, ScriptFault, Words, at_line, without_end};
 use std::alloc::Global;
 
-/// True if a line asks nothing: it has no word, or the first begins with `#`.
+/// True if a line asks nothing: it has no word, or the first word begins with `#`.
 pub(crate) fn is_skipped(line: &[u8]) -> bool
     ensures { result ≡ is_skipped (words_of line.now) }
 {
@@ -23,7 +23,7 @@ pub(crate) fn is_skipped(line: &[u8]) -> bool
     }
 }
 
-/// True if a word, or a line, is this one.
+/// True if a word, or a line, equals this one.
 pub(crate) fn is_word(word: &[u8], other: &[u8]) -> bool
     ensures { result ≡ bytes_eq word.now other.now }
 {
@@ -56,7 +56,7 @@ pub(crate) fn parse_command(
     }
 }
 
-/// Returns the first line of bytes, or an empty one.
+/// Returns the first line of bytes, or an empty one if there is none.
 pub(crate) fn first_line(bytes: &[u8]) -> &[u8]
     ensures value { result.now ≡ first_of (lines_of bytes.now) }
 {
@@ -66,7 +66,7 @@ pub(crate) fn first_line(bytes: &[u8]) -> &[u8]
     }
 }
 
-// Returns the call of a script, if it has one.
+// Returns the call of a script, if it is one section with one call.
 fn call_in(script: Script) -> Result<Option<Call>, ScriptFault>
     ensures { Gives result (call_in script) }
 {
@@ -92,8 +92,7 @@ fn read_call(script: Result<Script, ScriptFault>) -> Result<ParsedCommand, Scrip
     }
 }
 
-// True if a word asks for the diagnostic of the last fault or refusal. If lines end with CR and LF it has a
-// CR.
+// True if a word is `why`, perhaps with the carriage return of a line that ends with CR and LF.
 fn is_why(word: &[u8]) -> bool
     ensures { result ≡ is_why word.now }
 {

@@ -29,7 +29,7 @@ pub fn answer_question(
     answer_at(alloc, book.history(), book.state(), question)
 }
 
-/// Renders the answer at the state after a history.
+/// Renders the answer to a question at the state that a history leads to.
 pub(crate) fn answer_at(
     alloc: Global,
     history: &[(u32, Call)],

@@ -14,7 +14,7 @@ use camp_script::{
 };
 use std::alloc::Global;
 
-/// Parses a question from its first word and the others, if they ask one.
+/// Parses a question from its first word and the others, if it begins one.
 pub(crate) fn read_question(
     alloc: Global,
     word: &[u8],

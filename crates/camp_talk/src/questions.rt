@@ -27,10 +27,10 @@ pub enum Question {
     File { branch: Name, path: Path },
     /// The branches.
     Branches,
-    /// The patches of a branch, their direct dependencies, and the conflicts between them: all of them or, if
-    /// some are named, these with their dependencies and dependents.
+    /// The patches of a branch, their direct dependencies, and the conflicts between them; if some are named, only
+    /// these with their dependencies and dependents.
     Graph { branch: Name, names: Names },
-    /// The reply that a call would get, and the state of its branch after it.
+    /// The reply that a call would get, and the state that its branch would have.
     WhatIf(Call),
     /// The accepted calls.
     History,
@@ -40,7 +40,7 @@ pub enum Question {
     Help(Topic),
 }
 
-/// The topic of help: all commands, or one; all refusals, or one.
+/// The topic of help: all commands, one of them, all refusals, or one of them.
 #[derive(Clone, Copy, Debug)]
 pub enum Topic {
     Commands,
@@ -72,7 +72,7 @@ pub enum Topic {
     Help,
 }
 
-/// Why something is refused, in the order of the numbers: the first is 1.
+/// The reasons of refusals, in the order of their numbers; the first is 1.
 #[derive(Clone, Copy, Debug)]
 pub enum Reason {
     BadName,

@@ -19,11 +19,11 @@ use camp_why::call_part;
 use std::alloc::Global;
 use std::io::BufRead;
 
-/// A command: its lines, as they are read.
+/// A command: its lines, as they were read.
 #[derive(Drop)]
 pub(crate) struct Command {
     pub(crate) bytes: Vec<u8>,
-    /// Its last line was read; else the input has ended.
+    /// True if its last line has a line feed; else the input has ended.
     pub(crate) is_whole: bool,
     pub(crate) parsed: Result<ParsedCommand, ScriptFault>,
 }
@@ -86,7 +86,7 @@ fn read_lines<R: BufRead>(alloc: Global, reader: &mut R) -> Result<Lines, TalkFa
     })
 }
 
-// Reads the next line of a command. True if it has a line feed; else the input has ended.
+// Reads the next line of a command. True if it has a line feed, false if the input has ended.
 fn read_next<R: BufRead>(
     reader: &mut R,
     bytes: &mut Vec<u8>,

@@ -1,4 +1,4 @@
-//! The lines of a command that was cut off by a fault in its first line.
+//! Recovery: the lines of a command that a fault in its first line has cut off.
 ghost use Rattle.std.specs.Prelude.{◌≡◌};
 ghost use Rattle.camp_script.specs.Lines.{words_of};
 ghost use Rattle.camp_talk.specs.Diagnostics.{begins_command, is_edit, is_form, is_group, is_record, is_short, may_be, recovery_after, recovery_after_branch, recovery_in_words, recovery_of_line};
@@ -7,22 +7,22 @@ use crate::parsing::is_word;
 use camp_script::{Words, after_word, begins_edit, begins_with};
 use camp_why::{begins_signed, call_part};
 
-/// The lines that may still come of a command that was cut off from them.
+/// The kind of lines that may still come of a command after a fault in its first line.
 #[derive(Clone, Copy)]
 pub(crate) enum Recovery {
     Nothing,
-    /// A line with a sign, followed by those of a body.
+    /// A line with a sign, and then those of a body.
     Signed,
-    /// Those of a body, up to `end`.
+    /// Lines of a body, up to `end`.
     Body,
-    /// Those of a group, up to `done`.
+    /// Lines of a group, up to `done`.
     Group,
-    /// Those of a body, followed by those of its group.
+    /// Lines of a body, and then of its group.
     GroupBody,
 }
 
 impl Recovery {
-    /// True if a line may be one of them.
+    /// True if a line may be one of these.
     pub(crate) fn may_be(self, line: &[u8]) -> bool
         ensures { result ≡ may_be self line.now }
     {
@@ -33,7 +33,7 @@ impl Recovery {
         }
     }
 
-    /// Returns the lines that may come after a line.
+    /// Returns the kind of lines that may come after this one.
     pub(crate) fn after(self, line: &[u8]) -> Recovery
         ensures { result ≡ recovery_after self line.now }
     {
@@ -49,16 +49,15 @@ impl Recovery {
     }
 }
 
-/// Returns the lines that follow a line that is cut off from them, if it is a record, or may be a misspelt
-/// one.
+/// Returns the kind of lines that follow a line with a fault, if it is a record, or may be a misspelt one.
 pub(crate) fn recovery_of_line(line: &[u8]) -> Recovery
     ensures { result ≡ recovery_of_line line.now }
 {
     recovery_after_branch(after_word(after_word(call_part(line))))
 }
 
-/// True if the first word of a line is `client`, or that of a command which may be unknown only because of
-/// the words after it.
+/// True if the first word of a line is `client`, or that of a command that may be unknown only because of the words
+/// after it.
 pub(crate) fn begins_command(line: &[u8]) -> bool
     ensures { result ≡ begins_command line.now }
 {
@@ -78,14 +77,14 @@ pub(crate) fn is_record(line: &[u8]) -> bool
     }
 }
 
-// Returns the lines that follow a record, by the rest of its line after the branch.
+// Returns the kind of lines that follow a record, by the rest of its line after the branch.
 fn recovery_after_branch(line: &[u8]) -> Recovery
     ensures { result ≡ recovery_after_branch line.now }
 {
     recovery_in_words(after_word(line), recovery_in_words(line, Recovery::Signed))
 }
 
-// Returns the lines that follow, by the first word of a line that says it; else these.
+// Returns the kind of lines that follow by the first word of a line that says it; else the given kind.
 fn recovery_in_words(line: &[u8], other: Recovery) -> Recovery
     ensures { result ≡ recovery_in_words (words_of line.now) other }
 {
@@ -110,21 +109,21 @@ fn is_short(word: &[u8]) -> bool
     is_form(word, b"add", b"Add", b"ADD") || is_form(word, b"remove", b"Remove", b"REMOVE")
 }
 
-// True if it says that those of a group follow.
+// True if a word of a record says that the lines of a group follow.
 fn is_group(word: &[u8]) -> bool
     ensures { result ≡ is_group word.now }
 {
     is_form(word, b"group", b"Group", b"GROUP") || is_form(word, b"group\r", b"Group\r", b"GROUP\r")
 }
 
-// True if it says that those of a body follow.
+// True if a word of a record says that the lines of a body follow.
 fn is_edit(word: &[u8]) -> bool
     ensures { result ≡ is_edit word.now }
 {
     is_form(word, b"edit", b"Edit", b"EDIT")
 }
 
-// True if a word is one of three: in small letters, with a capital letter, and in capitals.
+// True if a word is one of three: in small letters, with a capital letter at its start, or in capitals.
 fn is_form(word: &[u8], small: &[u8], capital: &[u8], capitals: &[u8]) -> bool
     ensures { result ≡ is_form small.now capital.now capitals.now word.now }
 {

@@ -26,7 +26,7 @@ pub(crate) fn refusal_text(alloc: Global, reason: Reason) -> Result<Vec<u8>, All
     joined(alloc, &[saying(reason).as_bytes(), cure(reason).as_bytes()])
 }
 
-/// The reasons for refusals, in the order of their numbers.
+/// Returns the reasons of refusals, in the order of their numbers.
 pub(crate) fn reasons() -> [Reason; 14]
     ensures { result ≡ reasons }
 {
@@ -48,7 +48,7 @@ pub(crate) fn reasons() -> [Reason; 14]
     ]
 }
 
-/// Returns the number of a refusal.
+/// Returns the number of a reason.
 pub(crate) fn reason_number(reason: Reason) -> &'static str
     ensures { result.now ≡ reason_number reason }
 {
@@ -70,7 +70,7 @@ pub(crate) fn reason_number(reason: Reason) -> &'static str
     }
 }
 
-/// Returns the form of a refusal, and its meaning.
+/// Returns the form of a refusal with its meaning.
 pub(crate) fn saying(reason: Reason) -> &'static str
     ensures { result.now ≡ saying reason }
 {
@@ -94,7 +94,7 @@ pub(crate) fn saying(reason: Reason) -> &'static str
     }
 }
 
-/// Returns the hint on a refusal.
+/// Returns the hint on a reason.
 pub(crate) fn cure(reason: Reason) -> &'static str
     ensures { result.now ≡ cure reason }
 {

@@ -8,11 +8,10 @@ use crate::{Diagnostic, TalkFault};
 use camp_repo::{Book, State};
 use std::alloc::Global;
 
-/// Executes a request and appends its answer: that of a conversation of exactly these bytes, which begins at
-/// the book as it is. A body or a group that has not ended has its fault; an empty request has an empty
-/// answer; several commands have their answers in order. Lines count from the start of the request. After a
-/// fault the book has the effects of the commands before it; a command whose answer is not there whole may
-/// have been executed.
+/// Executes a request and appends its answer: that of a conversation of exactly these bytes, which begins with the book
+/// in its current state. A body or a group that has not ended is a fault; an empty request has an empty answer; several
+/// commands are answered in order. Lines are counted from the start of the request. After an error the book has the
+/// effects of the commands before it; the command whose answer is incomplete may have been executed.
 #[tactic(auto, using(crate::proofs::StepLemmas::begins_so, crate::proofs::StepLemmas::holds_on))]
 pub fn answer_request(
     alloc: Global,
@@ -45,8 +44,7 @@ pub fn answer_request(
     }
 }
 
-// Returns why an answer that is written to memory could not be made: if it could not be written, memory ran
-// out.
+// Returns why an answer could not be written to memory: memory ran out.
 fn in_memory(why: TalkFault) -> TalkFault
     ensures { IsNotWriting result }
 {

@@ -19,10 +19,9 @@ use std::io::{BufRead, ErrorKind, Write};
 /// The most bytes of a request.
 const MAX_REQUEST: u64 = 268_435_456;
 
-/// Reads a request in its frame, answers it over a book at seat 0, writes the frame of the answer and
-/// flushes. True if there may be more; else the input has ended. `served` counts the requests that were
-/// served: each adds one. After a fault of the frame exactly a line was read, or the input ended within the
-/// frame; no whole frame is read and not answered.
+/// Reads a request in its frame, answers it over a book at seat 0, writes the frame of the answer and flushes. True if
+/// there may be more, false if the input has ended. `served` counts the requests that were served. After a fault of the
+/// frame exactly a line was read, or the input ended within the frame; no complete frame is read and not answered.
 pub fn serve<R: BufRead, W: Write>(
     alloc: Global,
     book: &mut Book<State>,
@@ -73,7 +72,7 @@ pub(crate) fn read_request<R: BufRead>(
     Ok(Some(request))
 }
 
-/// Parses the line before a request as its number of bytes.
+/// Parses the line before a request as the request's length in bytes.
 pub(crate) fn request_len(line: &[u8]) -> Result<u64, FrameFault>
     ensures { MatchResult result (IsCounted line.now) (IsNotCounted line.now) }
 {
@@ -84,7 +83,7 @@ pub(crate) fn request_len(line: &[u8]) -> Result<u64, FrameFault>
     }
 }
 
-// Reads a number of bytes. True if they were all there; else the input has ended.
+// Reads a number of bytes. True if all of them were read, false if the input has ended.
 fn read_bytes<R: BufRead>(
     reader: &mut R,
     bytes: &mut Vec<u8>,
@@ -109,7 +108,7 @@ fn read_bytes<R: BufRead>(
     Err(TalkFault::Read(ErrorKind::TimedOut.into()))
 }
 
-// Reads what the reader shows, up to the capacity. True if there may be more; else the input has ended.
+// Reads what the reader shows, up to the capacity. True if there may be more, false if the input has ended.
 fn read_more<R: BufRead>(
     reader: &mut R,
     bytes: &mut Vec<u8>,

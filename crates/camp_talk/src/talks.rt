@@ -15,16 +15,16 @@ use std::io::{BufRead, Write};
 pub(crate) struct ExecutedCommand {
     /// The response, or out of memory.
     pub(crate) response: Result<Vec<u8>, AllocError>,
-    /// The number of its first line.
+    /// The line number of its first line.
     pub(crate) line: u64,
-    /// The number of lines that were read, including its own.
+    /// The number of lines read so far, with its own.
     pub(crate) lines: u64,
-    /// Its last line was read; else the input has ended.
+    /// True if its last line has a line feed; else the input has ended.
     pub(crate) is_whole: bool,
 }
 
-/// Reads a command, and executes it on a book at seat 0, given the number of lines before it. If it has a
-/// fault or is refused, `diagnostic` becomes its diagnostic.
+/// Reads a command and executes it on a book at seat 0, given the number of lines before it. If it has a fault or is
+/// refused, `diagnostic` becomes its diagnostic.
 pub(crate) fn execute_next<R: BufRead>(
     alloc: Global,
     book: &mut Book<State>,
@@ -62,9 +62,9 @@ pub(crate) fn execute_next<R: BufRead>(
     })
 }
 
-/// Reads a command, executes it on a book at seat 0, writes its answer and flushes. True if there may be
-/// more; else the input has ended. `lines` counts the lines that were read; after a fault it is unchanged.
-/// `diagnostic` is the diagnostic of the last fault or refusal.
+/// Reads a command, executes it on a book at seat 0, writes its answer and flushes. True if there may be more, false if
+/// the input has ended. `lines` counts the lines that were read; after an error it is unchanged. `diagnostic` is that
+/// of the last fault or refusal.
 pub fn take_step<R: BufRead, W: Write>(
     alloc: Global,
     book: &mut Book<State>,

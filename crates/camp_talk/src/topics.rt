@@ -1,4 +1,4 @@
-//! The topic of help.
+//! Parsing the topic of help.
 ghost use Rattle.std.specs.Option.{option_copied};
 ghost use Rattle.std.specs.Prelude.{◌≡◌, map};
 ghost use Rattle.camp_script.specs.Gives.{Gives};
@@ -13,7 +13,7 @@ use crate::questions::{Reason, Topic};
 use crate::refusal_texts::{reason_number, reasons};
 use camp_script::{FaultKind, ScriptFault, at_line, begins_with};
 
-/// Parses the topic of help, by the words after `help`.
+/// Parses the topic of help from the words after `help`.
 pub(crate) fn help_topic(words: &[&[u8]]) -> Result<Topic, ScriptFault>
     ensures { Gives result (help_line (map (λ word. word.now) words.now)) }
 {
@@ -35,7 +35,7 @@ fn word_topic(word: &[u8]) -> Result<Topic, ScriptFault>
     topic_at(word)
 }
 
-// Parses the refusal for which `help refused NUMBER` asks.
+// Parses the topic of `help refused NUMBER`.
 fn refusal_topic(word: &[u8], number: &[u8]) -> Result<Topic, ScriptFault>
     ensures { Gives result (refusal_topic word.now number.now) }
 {
@@ -48,7 +48,7 @@ fn refusal_topic(word: &[u8], number: &[u8]) -> Result<Topic, ScriptFault>
     }
 }
 
-/// Returns the reason of a number of a refusal.
+/// Returns the reason with this number of a refusal.
 pub(crate) fn reason_at(number: &[u8]) -> Option<Reason>
     ensures { result ≡ reason_at number.now }
 {
@@ -59,14 +59,14 @@ pub(crate) fn reason_at(number: &[u8]) -> Option<Reason>
     }
 }
 
-// Returns the first of some reasons that has a number.
+// Returns the first reason with this number.
 fn first_numbered<'a>(number: &[u8], reasons: &'a [Reason]) -> Option<&'a Reason>
     ensures { option_copied result ≡ first_numbered number.now reasons.now }
 {
     reasons.iter().find(|reason| is_word(reason_number(**reason).as_bytes(), number))
 }
 
-// Returns the command that a word begins.
+// Returns the command that begins with this word.
 fn topic_at(word: &[u8]) -> Result<Topic, ScriptFault>
     ensures { Gives result (topic_at word.now) }
 {
@@ -77,14 +77,14 @@ fn topic_at(word: &[u8]) -> Result<Topic, ScriptFault>
     }
 }
 
-// Returns the first of some commands whose example begins with a word.
+// Returns the first command whose example begins with this word.
 fn first_begun<'a>(word: &[u8], commands: &'a [Topic]) -> Option<&'a Topic>
     ensures { option_copied result ≡ first_begun word.now commands.now }
 {
     commands.iter().find(|command| begins(word, **command))
 }
 
-// True if the example of a command begins with a word.
+// True if the example of a command begins with this word.
 fn begins(word: &[u8], command: Topic) -> bool
     ensures { result ≡ begins_with word.now (words_of (first_of (lines_of (example command)))) }
 {

@@ -1,4 +1,4 @@
-//! Requests to a state, which does not change.
+//! Requests to a view: a state that does not change.
 ghost use Rattle.std.specs.Prelude.{◌≡◌, ◌++◌, ◌+◌, ◌^◌, ◌<◌, List, Ok, Result, IfErr, IfOk, OnErr, length, true, ℕ};
 ghost use Rattle.camp_script.specs.Gives.{Gives};
 ghost use Rattle.camp_script.specs.Lines.{lines_of};
@@ -22,9 +22,9 @@ use itoa::Buffer;
 use std::alloc::{AllocError, Global};
 use std::io::BufRead;
 
-/// Appends the answer to a request to a state: that of a conversation at this state, except that a command
-/// which would write, or asks about the history or, as `why`, about another command, has a fault of its own.
-/// After a fault the answer is unchanged.
+/// Appends the answer to a request to a state: that of a conversation at this state, except that some commands have a
+/// fault of their own: those that would write, and those that ask about the history or, as `why`, about another
+/// command. After an error the answer is unchanged.
 #[tactic(auto, using(crate::proofs::ViewLemmas::begins_view, crate::proofs::ViewLemmas::sees_on))]
 pub fn answer_view(
     alloc: Global,
@@ -52,8 +52,8 @@ pub fn answer_view(
     }
 }
 
-// Reads a command, and appends the answer of a state to it. True if there may be more; else the input has
-// ended. `lines` counts the lines that were read. After a fault the answer is unchanged.
+// Reads a command, and appends the answer of a state to it. True if there may be more, false if the input has ended.
+// `lines` counts the lines that were read. After an error the answer is unchanged.
 fn see<R: BufRead>(
     alloc: Global,
     state: &State,
@@ -80,8 +80,8 @@ fn see<R: BufRead>(
     }
 }
 
-// Appends the answer of a state to a command, and counts the lines of the command. After a fault the answer
-// is unchanged.
+// Appends the answer of a state to a command, and counts the lines of the command. After an error the answer is
+// unchanged.
 fn append_view(
     alloc: Global,
     state: &State,
@@ -106,7 +106,7 @@ fn append_view(
     Ok(())
 }
 
-// Renders the answer of a state to a parsed command, given the number of the lines before it.
+// Renders the answer of a state to a parsed command, given the number of lines before it.
 fn show(
     alloc: Global,
     state: &State,
@@ -126,7 +126,7 @@ fn show(
     }
 }
 
-// Renders the reply to a call that asks; that of its fault to one that would write.
+// Renders the reply to a call that does not write; of one that would write, the text of its fault.
 #[tactic(auto, using(crate::proofs::ViewLemmas::leads_on))]
 fn show_reply(alloc: Global, state: &State, before: u64, call: &Call) -> Result<Vec<u8>, AllocError>
     ensures { IfOk result (λ text. ShowsAnswer state.now before (Ok (SpecParsedCommand.Call call.now)) text.items) }
@@ -157,7 +157,7 @@ fn show_answer_of(
     }
 }
 
-// Returns the fault of a command that a view does not answer, given the number of the lines before it.
+// Returns the fault of a command that a view does not answer, given the number of lines before it.
 fn beyond_text(alloc: Global, before: u64) -> Result<Vec<u8>, AllocError>
     ensures { IfOk result (λ text. text.items ≡ beyond_text (before + 1)) }
 {

@@ -1,4 +1,4 @@
-//! Bytes as they are shown: no control byte reaches a terminal.
+//! Bytes as printable characters, so that no control byte reaches a terminal.
 ghost use Rattle.std.specs.Prelude.{◌≡◌, ◌++◌, ◌∷◌, [], ◌/◌, ◌%◌, ◌<◌, IfOk, OnOk, codes};
 ghost use Rattle.camp_notation.specs.Words.{hex_digit};
 ghost use Rattle.camp_talk.specs.Visible.{visible, visible_byte};

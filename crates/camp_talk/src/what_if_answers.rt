@@ -1,4 +1,4 @@
-//! The foreseen result of a call as a text.
+//! The foreseen result of a call, as text.
 ghost use Rattle.std.specs.Prelude.{◌≡◌, IfOk};
 ghost use Rattle.camp_questions.specs.Foresight.{Foresees};
 ghost use Rattle.camp_questions.specs.declared.foresight.Foreseen.{Foreseen as SpecForeseen};
@@ -12,8 +12,8 @@ use camp_repo::{Call, Reply, State};
 use camp_script::answer_text;
 use std::alloc::{AllocError, Global};
 
-/// Renders the reply that a call would get, and the state of the branch that it would write to. A count of
-/// calls that overflows is reported as out of memory.
+/// Renders the reply that a call would get, and the state that the branch it writes to would have. An overflow of the
+/// count of calls is reported as out of memory.
 pub(crate) fn render_foreseen(
     alloc: Global,
     state: &State,
@@ -49,7 +49,7 @@ fn standing_text(alloc: Global, standing: Option<BranchState>) -> Result<Vec<u8>
     both(conflicts, both(changes, tree))
 }
 
-/// Renders the conflicts that would become unresolved, and those that would be resolved.
+/// Renders the conflicts that would become unresolved, and those that would no longer be.
 fn changes_text(alloc: Global, standing: &BranchState) -> Result<Vec<u8>, AllocError>
     ensures { IfOk result (λ text. text.items ≡ changes_answer standing.now) }
 {

@@ -51,8 +51,8 @@ pub(crate) fn is_failure(answer: &[u8]) -> bool
     answer.starts_with(b"fault ") || answer.starts_with(b"refused ")
 }
 
-/// Makes the diagnostic of a command that was not done, by the diagnostic before it, the state before the
-/// command, its lines, its parsed form, and its answer.
+/// Makes the diagnostic after a command that was not done, given the diagnostic before it, the state before the
+/// command, its lines, its parsed form and its answer.
 pub(crate) fn diagnostic_of(
     alloc: Global,
     before: &Diagnostic,
@@ -75,7 +75,7 @@ pub(crate) fn diagnostic_of(
     }
 }
 
-// Returns the reason of a refusal, by its answer.
+// Returns the reason of a refusal, parsed from its answer.
 fn reason_in(answer: &[u8]) -> Option<Reason>
     ensures { result ≡ reason_in (words_of (first_of (lines_of answer.now))) }
 {
@@ -140,7 +140,7 @@ fn against_text(
     both(sides, facts_text(alloc, state, parsed, found, reason))
 }
 
-// Renders what exists and what does not: the subject of a refusal, by the cause that was found.
+// Renders what exists and what does not, as far as a refusal is about it, given the cause.
 fn facts_text(
     alloc: Global,
     state: &State,
@@ -178,7 +178,7 @@ fn cure_at(
     }
 }
 
-// Renders the hint if a limit would be exceeded.
+// Renders the hint for a limit that would be exceeded.
 fn limit_cure(cause: &Cause) -> &'static str
     ensures { result.now ≡ limit_cure cause.now }
 {
@@ -202,7 +202,7 @@ fn found_text(alloc: Global, found: &Option<Cause>) -> Result<Vec<u8>, AllocErro
     }
 }
 
-// Renders why a command is refused for a reason; for a question only what its refusal says.
+// Renders why a command is refused, given the reason; for a question only what its refusal says.
 fn cause_found(
     state: &State,
     parsed: &ParsedCommand,
@@ -380,8 +380,8 @@ fn ends_before_text(
     both(text, lacks_text(alloc, at, lacks))
 }
 
-// Renders the old line past the end of the file, and the line at which it would be; without old lines, that
-// LINE is too great.
+// Renders the old line past the end of the file, and the line number that it would have; for an edit without old lines,
+// that LINE is too great.
 fn lacks_text(alloc: Global, at: usize, lacks: &Option<Line>) -> Result<Vec<u8>, AllocError>
     ensures { IfOk result (λ text. text.items ≡ lacks_text at lacks.now) }
 {
@@ -396,7 +396,7 @@ fn lacks_text(alloc: Global, at: usize, lacks: &Option<Line>) -> Result<Vec<u8>,
     Ok(text)
 }
 
-// Renders that the file has another line than an edit removes.
+// Renders that the file has this line where an edit removes another.
 fn met_text(alloc: Global, at: usize, there: &[u8], expected: &[u8]) -> Result<Vec<u8>, AllocError>
     ensures { IfOk result (λ text. text.items ≡ met_text at there.now expected.now) }
 {
@@ -424,7 +424,7 @@ fn met_lines(alloc: Global, at: usize, there: &[u8], expected: &[u8]) -> Result<
     )
 }
 
-// Renders that two lines differ only at their ends, if they do.
+// Renders that two lines differ only at their ends; nothing if they differ elsewhere.
 fn ends_text(actual: &[u8], expected: &[u8]) -> &'static str
     ensures { result.now ≡ ends_text actual.now expected.now }
 {

@@ -1,4 +1,4 @@
--- What the owner of a book sees of a call.
+-- What the owner of a book can conclude from a reply.
 use Rattle.std.specs.Prelude.{◌≡◌, ℕ, [], ◌∷◌, ◌++◌, length, Result, Ok, Err}
 use Rattle.camp_call.specs.declared.calls.Call.{Call}
 use Rattle.camp_call.specs.declared.replies.Reply.{Reply}
@@ -12,8 +12,8 @@ use Rattle.camp_repo.specs.States.{Contents}
 abbrev pub booked_call : Booked Contents Call → ℕ → Call → Booked Contents Call
 booked_call book seat call = record { first = book.first; calls = book.calls ++ (seat, call) ∷ [] }
 
--- a call that gets a number is booked as the call of that number; a refusal, an answer to a question and out of
--- memory leave all unchanged; there is no other fault
+-- a call whose reply has a number is in the book under that number; after a refusal, an answer to a question and out of
+-- memory the book is unchanged; there is no other fault
 abbrev pub Leaves : ℕ → Booked Contents Call → Call → Result Reply Fault → Booked Contents Call → Type 0
 Leaves seat old call (Ok (Done at)) new = (at ≡ length new.calls) × (new ≡ booked_call old seat call)
 Leaves seat old call (Ok other) new = new ≡ old

@@ -12,17 +12,17 @@ use Rattle.camp_uses.specs.declared.numbers.NumberReply.TheVariants.{Done, Prese
 abbrev pub has_number : List ℕ → ℕ → Bool
 has_number numbers number = list_any (λ n. n == number) numbers
 
--- a number that is not in the list is appended, and nothing else is accepted
+-- the decision on a call: a number that is not in the list is appended; any other call is not accepted
 abbrev pub inserted : List ℕ → NumberCall → Option (List ℕ)
 inserted numbers (Insert number) = if has_number numbers number then None else Some (numbers ++ number ∷ [])
 inserted numbers Show = None
 
--- the numbers in a reply
+-- the numbers in a reply; none if it shows none
 abbrev pub numbers_in : NumberReply → Option (List ℕ)
 numbers_in (Shown numbers) = Some numbers.items
 numbers_in other = None
 
--- a number that is there is refused; a question shows the numbers
+-- the reply to a call that is not accepted: the refusal of a number that is there, or the numbers for a question
 abbrev pub NumberReplies : List ℕ → NumberCall → NumberReply → Type 0
 NumberReplies numbers (Insert number) reply = reply ≡ Present
 NumberReplies numbers Show reply = IsSomeAnd (numbers_in reply) (λ shown. shown ≡ numbers)

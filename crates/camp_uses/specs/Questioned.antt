@@ -29,8 +29,8 @@ IsRefusal told = (refusal : Refusal) × (told ≡ reply.Refused refusal)
 abbrev pub HasThem : List Catch → List (List ℕ) → Type 0
 HasThem catches names = (name : List ℕ) → is_among names name ≡ true → has_patch catches name ≡ true
 
--- exactly the dependencies of some names were pulled: the branch has its own patches followed by those that were
--- pulled, and so all that were named
+-- exactly the dependencies of some names were pulled: the branch has its own patches and then those, and therefore all
+-- that were named
 pub record PullsAlong (state : Contents) (from to : List ℕ) (names : List (List ℕ)) (next : Contents) : Type 0 where
   pub theirs : List Catch
   pub from_has : Has state from theirs
@@ -44,9 +44,8 @@ pub record PullsAlong (state : Contents) (from to : List ℕ) (names : List (Lis
   pub has_names : HasThem new names
   pub has_told : HasThem new told
 
--- why a pull of patches with their dependencies may be refused: for a missing patch only if the other branch lacks
--- one that is named, as having nothing to do only if all that are named are there, and never because one depends on
--- another
+-- why a pull of patches with their dependencies may be refused: for a missing patch only if the other branch lacks a
+-- named one; as having nothing to do only if all named ones are there; and never because one depends on another
 abbrev pub MayRefuseFor : Contents → List ℕ → List ℕ → List (List ℕ) → Refusal → Type 0
 MayRefuseFor state from to names (NoBranch name) = catches_of state.branches name ≡ None
 MayRefuseFor state from to names (NoPatch name) =
@@ -61,7 +60,7 @@ MayRefuseFor state from to names (BranchExists name) = ⊥
 MayRefuseFor state from to names (PatchExists name) = ⊥
 MayRefuseFor state from to names DoesNotApply = ⊥
 
--- the pull is refused so, or memory ran out
+-- the pull is refused for such a reason, or memory ran out
 abbrev pub MayRefuse : Contents → List ℕ → List ℕ → List (List ℕ) → Unanswered → Type 0
 MayRefuse state from to names (Refused refusal) = MayRefuseFor state from to names refusal
 MayRefuse state from to names Memory = Unit {0}
@@ -72,14 +71,13 @@ LeavesOthers branch catches names next =
     (held : List (List ℕ)) × HeldBy catches names held
     × ((left : List Catch) × Has next branch left × (names_of left ≡ other_names catches held))
 
--- patches are taken out of a branch with all their dependents
+-- patches are taken out of a branch together with all their dependents
 abbrev pub GoesWithHeld : Contents → List ℕ → List (List ℕ) → AnswerOf Contents → Type 0
 GoesWithHeld state branch names =
     OfBranch state branch (λ catches.
     OfPatches catches names (λ answer. (next : Contents) × (answer ≡ Ok next) × LeavesOthers branch catches names next))
 
--- a script of one call, which records the changes of a patch as it is shown; none if their number is not one that a
--- patch may have
+-- a script of one call, which records the changes of a patch as it is shown; none if there are too many or no changes
 abbrev pub IsReadBack : Contents → List ℕ → List ℕ → List ℕ → Option (List (List Call)) → Type 0
 IsReadBack state branch name to found =
     (catches : List Catch) × Has state branch catches

@@ -8,8 +8,8 @@ use Rattle.camp_run.specs.declared.faults.RunFault.{RunFault}
 use Rattle.camp_run.specs.declared.faults.RunFault.TheVariants.{Script, Foreign}
 use Rattle.camp_script.specs.Reading.{script_of}
 
--- the bytes are a script, and a text is the output of its sections, asked one after the other of a repository without
--- given limits
+-- the bytes are a script, and a text is the output of its sections, asked one after the other of a repository with the
+-- default limits
 abbrev pub IsOutputOf : List ℕ → Bool → List ℕ → Type 0
 IsOutputOf bytes history text =
     (script : List (List Call)) × (script_of bytes ≡ Ok script) × IsOutput (IsSerial default_bounds) history script text

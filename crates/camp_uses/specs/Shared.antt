@@ -13,7 +13,8 @@ use Rattle.camp_repo.specs.Limits.{Bounds}
 use Rattle.camp_repo.specs.Objects.{repository_within}
 use Rattle.camp_repo.specs.States.{Contents, catches_of}
 
--- after a history of a repository with these limits a branch has this tree: the effects of its catches, in their order, applied to no files
+-- after a history of a repository with these limits a branch has this tree: the effects of its catches, in order,
+-- applied to the empty tree
 pub record HistoryHasTree (limits : Bounds) (history : List (ℕ × Call)) (branch : List ℕ) (tree : Files) : Type 0 where
   pub state : Contents
   pub replays : replay (repository_within limits) history ≡ Some state
@@ -32,7 +33,7 @@ abbrev pub tree_in : Reply → Option Files
 tree_in (Tree tree) = Some tree
 tree_in other = None
 
--- the calls of a caller: one more if it got a number, else as before
+-- the calls of a caller after a reply: one more if the reply has a number, else the same
 abbrev pub AddsIfDone : List Call → Call → Result Reply Fault → List Call → Type 0
 AddsIfDone old call (Ok (Done at)) new = new ≡ old ++ call ∷ []
 AddsIfDone old call other new = new ≡ old

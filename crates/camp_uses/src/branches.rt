@@ -14,8 +14,8 @@ use camp_branch::{
 use camp_catch::Unmade;
 use std::alloc::AllocError;
 
-/// Returns a branch with the wanted patches of another one, which it lacks; `None` exactly if they can't be
-/// pulled. Its own patches come first, followed by the new ones in the order of the other branch.
+/// Returns a branch with the wanted patches of another one, which it lacks; `None` exactly if they can't be pulled. Its
+/// own patches come first, and then the new ones in the order of the other branch.
 pub fn with_pulled(
     to: &Branch,
     from: &Branch,
@@ -39,8 +39,8 @@ pub fn with_pulled(
     }
 }
 
-/// Returns a branch without the patches of some names; `None` exactly if another one depends on them. The
-/// others stay in their order.
+/// Returns a branch without the patches of some names; `None` exactly if another patch depends on one of them. The
+/// other patches keep their order.
 pub fn without(branch: &Branch, names: &NameSet) -> Result<Option<Branch>, AllocError>
     ensures exact { IfOk result (λ found. MatchOption found
         ((why : Why) × ObliterateGives branch.now (names_in names.now) (err why))

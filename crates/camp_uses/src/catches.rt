@@ -11,8 +11,8 @@ use camp_catch::{
 use camp_share::Shared;
 use std::alloc::{AllocError, Global};
 
-/// Returns two catches in their other order, if they commute: if the two fit a tree these do too, and both
-/// orders end in one tree.
+/// Returns two catches in their other order, if they commute: if the two fit a tree, these do too, and both orders lead
+/// to the same tree.
 pub fn in_other_order(
     alloc: Global,
     j: &Catch,
@@ -25,7 +25,8 @@ pub fn in_other_order(
     commute(alloc, j, k)
 }
 
-/// Returns what two catches of the same state become after each other, found in both ways: they agree.
+/// Returns what each of two catches that begin in the same state becomes after the other, found in both ways: the
+/// results agree.
 pub fn merged_either_way(
     alloc: Global,
     j: &Catch,
@@ -40,7 +41,7 @@ pub fn merged_either_way(
     both(here, there)
 }
 
-/// Returns the values of two results, if each has one.
+/// Returns the values of two results, if both have one.
 fn both<T: Drop>(
     here: Option<T>,
     there: Result<Option<T>, AllocError>,
@@ -51,7 +52,7 @@ fn both<T: Drop>(
     Ok(here.zip(there))
 }
 
-/// Returns what the catches of another list become after our own, if both lists begin in one state. They keep
+/// Returns what the catches of another list become after our own, if both lists begin in the same state. They keep
 /// their labels, and fit the tree that our list leads to.
 pub fn theirs_after_ours(
     alloc: Global,

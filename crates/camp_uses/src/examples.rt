@@ -1,5 +1,4 @@
-//! Examples of callers, some of which are in the READMEs of their crates. Those of other modules may be there
-//! too.
+//! Examples of callers, some of which are shown in READMEs of crates, as are some of other modules.
 ghost use Rattle.std.specs.Prelude.{◌≡◌, IfOk, IfSome};
 ghost use Rattle.std.specs.Cmp.Lexicographic.{slice_cmp};
 ghost use Rattle.std.specs.FinMap.{remove};
@@ -30,7 +29,7 @@ pub fn put_and_remove(
     one.without(path)
 }
 
-/// A tree with one file of one line; `camp_base`.
+/// Makes a tree with one file of one line; `camp_base`.
 pub fn one_line(alloc: Global, path: &Path, line: &Line) -> Result<Tree, Apply> {
     let mut tree = Tree::empty(alloc);
     tree.add_file(path)?;
@@ -39,8 +38,7 @@ pub fn one_line(alloc: Global, path: &Path, line: &Line) -> Result<Tree, Apply> 
     Ok(tree)
 }
 
-/// Undoes `p` in a tree that `p` and then `q` made, and keeps what `q` did, if it does not depend on `p`;
-/// `camp_prim`.
+/// Undoes `p` in a tree that `p` and then `q` made, and keeps what `q` did, unless it depends on `p`; `camp_prim`.
 pub fn take_out(tree: &mut Tree, p: &Named, q: &Named) -> Result<Option<Named>, Apply>
     ensures left { IfOk result (λ found. IfSome found (λ alone. (old : Files) →
         Leads p.now.prim q.now.prim old tree.old → Applies alone.prim old tree.new)) }
@@ -54,7 +52,7 @@ pub fn take_out(tree: &mut Tree, p: &Named, q: &Named) -> Result<Option<Named>, 
     Ok(Some(alone))
 }
 
-/// Merges `theirs` into a tree that `ours` made of the same state; `camp_seq`.
+/// Merges `theirs` into a tree that `ours` made of the same tree; `camp_seq`.
 pub fn pull(tree: &mut Tree, ours: &Seq, theirs: &Seq) -> Result<bool, Apply> {
     let Some((after_ours, _)) = clean_merge(ours, theirs)? else {
         return Ok(false);
@@ -77,7 +75,7 @@ pub fn conflicts_in_front(
     Ok(is_one(alloc, x, &seen)? && conflict(&seen, other)?)
 }
 
-/// Returns whether two contexted patches are one member of a set.
+/// Returns whether two contexted patches are the same member of a set.
 fn is_one(alloc: Global, x: &Contexted, seen: &Contexted) -> Result<bool, AllocError> {
     let set = CtxSet::empty(alloc).insert(x)?.insert(seen)?;
     Ok(set.len() == 1)

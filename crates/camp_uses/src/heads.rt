@@ -10,7 +10,7 @@ use camp_head::{Fault, Head, Kept, Seat};
 use camp_repo::{Call, Reply, histories_tell_trees};
 use std::sync::Wait;
 
-/// What became of two seats: each as it is now, with the answer to its call.
+/// The state of two seats after a call at each, with the two answers.
 #[derive(Drop)]
 pub struct Synchronised {
     pub first: Seat,
@@ -20,9 +20,9 @@ pub struct Synchronised {
     pub synchronised: Result<(), Fault>,
 }
 
-/// Asks for the tree of a branch: `None` if there is no such branch, else the effects of the branch's
-/// catches, applied to no files. Both hold at the end of the one history that the seat has seen by then,
-/// which has no new call of this seat, whatever the answer.
+/// Asks for the tree of a branch: `None` if there is no such branch, else the effects of the branch's catches, applied
+/// to the empty tree. The answer holds at the end of the history that the seat has seen, which has no new call of this
+/// seat.
 pub fn tree_at(
     rt: &impl Wait,
     head: &Head,
@@ -38,7 +38,7 @@ pub fn tree_at(
         (HistoryHasTree head.now.first.limits (history_of seat.new) branch.now)) }
 {
     histories_tell_trees();
-    // Its clauses show the prover what the history begins with.
+    // The clauses of this call show the prover what the history begins with.
     let _number = seat.number();
     let kept = head.keep(rt, &Call::Tree(*branch))?;
     let reply = head.ask(seat, kept)?;
@@ -55,8 +55,8 @@ fn tree_in(reply: Reply) -> Option<Tree>
     }
 }
 
-/// Asks a call at each of two seats, and synchronises the first with the second. Each has its own calls as
-/// its answers say; and if `synchronised` is Ok, the first has seen what the second has.
+/// Asks a call at each of two seats, and synchronises the first with the second. Each seat has its own calls as its
+/// answers say; if `synchronised` is Ok, the first has seen what the second has.
 pub fn ask_and_synchronise(
     head: &Head,
     first: Seat,

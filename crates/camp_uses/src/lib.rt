@@ -1,5 +1,5 @@
-//! Callers of the libraries that the line of camp_uses in `crates.txt` names, proved from their public clauses
-//! alone: what the contracts are good for.
+//! Callers of the libraries that the line of camp_uses in `crates.txt` names. They are proved from public clauses
+//! alone, which shows what the contracts are good for.
 #![tactic(auto)]
 
 pub mod branches;

@@ -26,8 +26,7 @@ pub fn do_and_undo(list: &Seq, tree: &mut Tree) -> Result<(), Apply>
     apply_all(&inverse, tree)
 }
 
-/// Returns the normal orders of two equivalent lists: with headroom they are one list, whichever way led from
-/// the one to the other.
+/// Returns the normal orders of two equivalent lists: with headroom they are the same list.
 pub fn in_order_either_way(s: &Seq, t: &Seq) -> Result<(Seq, Seq), AllocError>
     requires room { HasRoom s.now }
     requires equivalent { s.now ~ t.now }
@@ -38,7 +37,7 @@ pub fn in_order_either_way(s: &Seq, t: &Seq) -> Result<(Seq, Seq), AllocError>
     Ok((norm(s)?, norm(t)?))
 }
 
-/// Puts a list in normal order in order again: with headroom it stays unchanged.
+/// Puts a list in normal order in order again: with headroom it is unchanged.
 pub fn in_order_twice(list: &Seq) -> Result<(Seq, Seq), AllocError>
     requires { HasRoom list.now }
     ensures same { IfOk result (λ both. both.0 ≡ both.1) }
@@ -50,7 +49,7 @@ pub fn in_order_twice(list: &Seq) -> Result<(Seq, Seq), AllocError>
     Ok((once, twice))
 }
 
-/// Returns the trees after two lists that merge cleanly, in both orders: it is one tree.
+/// Returns the trees after two lists that merge cleanly, in both orders: they are the same tree.
 pub fn merged_in_both_orders(a: &Seq, b: &Seq, tree: &Tree) -> Result<Option<(Tree, Tree)>, Apply>
     ensures same { IfOk result (λ found. IfSome found (λ both. both.0 ≡ both.1)) }
 {
@@ -61,7 +60,7 @@ pub fn merged_in_both_orders(a: &Seq, b: &Seq, tree: &Tree) -> Result<Option<(Tr
     Ok(Some(both))
 }
 
-/// Returns the trees after two lists that merge to the two others, in both orders.
+/// Returns the trees after two lists and what they merge to, in both orders.
 fn trees_of_merged(
     a: &Seq,
     b: &Seq,

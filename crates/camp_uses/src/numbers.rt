@@ -1,4 +1,4 @@
-//! An object of one's own: the object of `camp_object` and the crates above it need not be a repository.
+//! An object that is not a repository, for `camp_object` and the crates above it.
 ghost use Rattle.std.specs.Prelude.{◌≡◌};
 ghost use Rattle.camp_uses.specs.NumberList.{has_number};
 
@@ -6,7 +6,7 @@ use camp_object::{Decided, Object};
 use std::alloc::{AllocError, Global};
 use std::marker::Model;
 
-/// Numbers in the order in which they came, each once.
+/// Different numbers in the order in which they were appended.
 #[derive(Drop)]
 pub struct Numbers {
     numbers: Vec<u32>,

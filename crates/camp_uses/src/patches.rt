@@ -16,7 +16,7 @@ pub fn do_and_undo(patch: &Named, tree: &mut Tree) -> Result<(), Apply>
     inverse.apply(tree)
 }
 
-/// Returns the trees after two patches in their two orders, if they commute: it is one tree.
+/// Returns the trees after two patches in their two orders, if they commute: they are the same tree.
 pub fn in_both_orders(p: &Named, q: &Named, tree: &Tree) -> Result<Option<(Tree, Tree)>, Apply>
     ensures same { IfOk result (λ found. IfSome found (λ both. both.0 ≡ both.1)) }
 {

@@ -10,9 +10,9 @@ use camp_repo::{Call, Decided, Refusal, Reply, State, accepted_calls_have_effect
 use camp_script::{Script, accepted_text, canonical_text_reads_back, read_script};
 use std::alloc::Global;
 
-/// Pulls patches with all that they need. If it is accepted, the branch that is pulled into has the patches
-/// and all that they need; it is never refused because one patch depends on another, and for a missing patch
-/// only if the other branch lacks one of these.
+/// Pulls patches with their dependencies. If the pull is accepted, the branch that is pulled into has all of them. It
+/// is never refused because one patch depends on another, and for a missing patch only if the other branch lacks one of
+/// the given patches.
 pub fn pull_along(
     state: &State,
     from: &Name,
@@ -49,8 +49,8 @@ fn refusal_of(reply: &Reply) -> Refusal
     *refusal
 }
 
-/// Takes patches out of a branch with all their dependents. It is accepted if the branch has the patches, and
-/// the others stay.
+/// Takes patches out of a branch with all their dependents. The obliteration is accepted if the branch has the patches;
+/// the other patches stay.
 pub fn obliterate_held(state: &State, branch: &Name, names: &[Name]) -> Result<State, Unanswered>
     requires counts { state.now.count < 2 ^ 64 - 1 }
     requires some { 0 < length names.now }
@@ -70,8 +70,8 @@ pub fn obliterate_held(state: &State, branch: &Name, names: &[Name]) -> Result<S
     }
 }
 
-/// Shows a patch, writes it as a record in the branch `to`, and reads this as a script: it contains exactly
-/// the changes that were shown. `None` if they are no change, or more than a patch may have.
+/// Shows a patch, writes it as a record in the branch `to`, and reads that as a script: it contains exactly the changes
+/// that were shown. `None` if they are none, or more than a patch may have.
 pub fn show_and_read(
     alloc: Global,
     state: &State,

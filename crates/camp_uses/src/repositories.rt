@@ -8,15 +8,15 @@ use camp_base::{Name, Tree};
 use camp_repo::{Book, Call, Decided, Fault, Reply, State, trees_are_answered};
 use std::alloc::AllocError;
 
-/// Asks a book at a seat. A call that gets a number is booked as the call of that number, after all others;
-/// any other answer leaves the book unchanged.
+/// Asks a book at a seat. A call whose reply has a number is in the book under that number, after all others; any other
+/// answer leaves the book unchanged.
 pub fn ask(book: &mut Book<State>, seat: u32, call: &Call) -> Result<Reply, Fault>
     ensures leaves { Leaves seat book.old call.now result book.new }
 {
     book.ask(seat, call)
 }
 
-/// Returns the tree of a branch, asked for by a call: there is one if there is the branch.
+/// Returns the tree of a branch, asked for by a call; if the branch exists, there is one.
 pub fn tree(state: &State, branch: &Name) -> Result<Option<Tree>, AllocError>
     requires { state.now.count < 2 ^ 64 - 1 }
     ensures exact { IfOk result (λ found. MatchOption found

@@ -11,8 +11,8 @@ use camp_run::{kept_text_leads_back, one_by_one_is_serial};
 use camp_script::{kept_text, read_script};
 use std::alloc::{AllocError, Global};
 
-/// Writes a book as a script, reads the script, and executes it on a new repository with the same limits:
-/// returns the new book.
+/// Writes a book as a script, reads the script, and executes it on a new repository with the same limits. Returns the
+/// new book.
 pub fn store_and_read(alloc: Global, book: &Book<State>) -> Result<Book<State>, AllocError>
     requires { length book.now.calls ≤ most_writing_calls }
     ensures history { IfOk result (λ again. again ≡ book_at_seat_0 book.now) }

@@ -1,4 +1,4 @@
--- Why a call is refused, if its refusal does not say it all.
+-- The cause of a refusal, if the refusal alone does not say it: a limit, or a change of a record.
 use Rattle.std.specs.Prelude.{◌≡◌, ◌<◌, ◌≤◌, ◌+◌, ℕ, suc, Bool, true, false, nat_lt, List, [], ◌∷◌, length, slice_get, Option, None, Some, if◌then◌else◌}
 use Rattle.camp_base.specs.Trees.{Files}
 use Rattle.camp_prim.specs.Hunks.{Edit}
@@ -20,7 +20,7 @@ use Rattle.camp_why.specs.declared.stops.Stop.{Stop}
 
 -- ---- the reported cause
 
--- a refusal says that a limit would be exceeded
+-- a refusal is `TooLarge`
 abbrev pub is_of_limit : Refusal → Bool
 is_of_limit TooLarge = true
 is_of_limit other = false
@@ -31,25 +31,25 @@ is_of_changes DoesNotApply = true
 is_of_changes TooLarge = true
 is_of_changes other = false
 
--- the first cause, or else the second
+-- the first cause, if there is one, else the second
 abbrev pub cause_or : Option Cause → Option Cause → Option Cause
 cause_or None second = second
 cause_or (Some cause) second = Some cause
 
--- the cause that the change of this number has a side that is too long: the path of its file, and the number of lines
--- of each side
+-- the cause that a side of this change is too long: the number of the change, the path of its file, and the number of
+-- lines of each side
 abbrev pub long_cause : ℕ → Primitive → Option Cause
 long_cause at (Add path) = None
 long_cause at (Remove path) = None
 long_cause at (Hunk hunk) =
     if has_long_side (Hunk hunk) then Some (LongSide at hunk.path (length hunk.old) (length hunk.new)) else None
 
--- the first change with a side that is too long; the first of them has this number
+-- the first change with a side that is too long; the changes are numbered from this number on
 abbrev pub first_long : ℕ → List Primitive → Option Cause
 first_long at [] = None
 first_long at (change ∷ changes) = cause_or (long_cause at change) (first_long (suc at) changes)
 
--- the cause that a record stops at a change, if it does
+-- the cause for a change at which a record stops, if there is one
 abbrev pub stop_cause : Option Stop → Option Cause
 stop_cause None = None
 stop_cause (Some stop) = Some (Stops stop)
@@ -59,34 +59,34 @@ abbrev pub stop_from : List Primitive → Option Files → Option Cause
 stop_from changes None = None
 stop_from changes (Some tree) = stop_cause (first_stop 1 changes tree)
 
--- why changes are not recorded in a branch with this limit and these catches
+-- why a record of these changes is refused in a branch with this limit and these catches
 abbrev pub record_cause : ℕ → List Primitive → Option (List Catch) → Option Cause
 record_cause most changes None = None
 record_cause most changes (Some catches) =
     if nat_lt most (length catches + length changes) then Some (FullBranch (length catches) (length changes) most)
     else cause_or (first_long 1 changes) (stop_from changes (tree_of catches))
 
--- the cause that a repository has its most branches
+-- the cause that a repository has as many branches as its limits allow
 abbrev pub branch_cause : Contents → Refusal → Option Cause
 branch_cause state refusal = if is_of_limit refusal then Some (FullRepository (length state.branches) state.limits.branches) else None
 
--- the catches that a pull appends, of those of the one branch: the listed ones that the other lacks
+-- the catches that a pull appends: those of one branch whose names are listed and that the other branch lacks
 abbrev pub brought : List Catch → List Catch → Option (List (List ℕ)) → List Catch
 brought theirs ours names = catches_named (wanted ours (listed theirs names)) theirs
 
--- the cause that a branch with this limit has too many catches with those that a pull appends
+-- the cause that a branch would have more catches than this limit with those that a pull appends
 abbrev pub full_with_pull : ℕ → Option (List Catch) → Option (List Catch) → Option (List (List ℕ)) → Option Cause
 full_with_pull most (Some theirs) (Some ours) names =
     Some (FullWithPull (length ours) (length (brought theirs ours names)) most)
 full_with_pull most theirs ours names = None
 
--- the cause that a branch would be too long after a pull
+-- the cause that a branch would be too long after a pull between these branches
 abbrev pub pull_cause : Contents → List ℕ → List ℕ → Option (List (List ℕ)) → Refusal → Option Cause
 pull_cause state from to names refusal =
     if is_of_limit refusal
     then full_with_pull state.limits.catches (catches_of state.branches from) (catches_of state.branches to) names else None
 
--- why a call is refused at a state; none if the refusal says it all
+-- why a call is refused at a state; none if the refusal alone says it
 abbrev pub explained : Contents → Call → Refusal → Option Cause
 explained state (call.Branch new from) refusal = branch_cause state refusal
 explained state (call.Record branch name changes) refusal =
@@ -96,12 +96,12 @@ explained state other refusal = None
 
 -- ---- the meaning of a cause
 
--- the refusal of a cause
+-- the refusal that a cause explains
 abbrev pub refusal_by : Cause → Refusal
 refusal_by (Stops stop) = refusal_at stop.why
 refusal_by other = TooLarge
 
--- a repository has this number of branches, and its limits allow no more
+-- a repository has this number of branches, which is the most that its limits allow
 pub record FillsRepository (state : Contents) (request : Call) (count most : ℕ) : Type 0 where
   pub new : List ℕ
   pub from : List ℕ
@@ -110,14 +110,14 @@ pub record FillsRepository (state : Contents) (request : Call) (count most : ℕ
   pub limit : most ≡ state.limits.branches
   pub full : most ≤ count
 
--- changes are recorded in a branch with these catches
+-- a call records changes in a branch with these catches
 pub record RecordsIn (state : Contents) (request : Call) (catches : List Catch) (changes : List Primitive) : Type 0 where
   pub branch : List ℕ
   pub name : List ℕ
   pub records : request ≡ call.Record branch name changes
   pub has : Has state branch catches
 
--- a branch has this number of changes, and with those of a record it would exceed its limit
+-- a branch has this number of catches, and would exceed its limit with those of a record
 pub record FillsBranch (state : Contents) (request : Call) (has more most : ℕ) : Type 0 where
   pub catches : List Catch
   pub changes : List Primitive
@@ -127,7 +127,7 @@ pub record FillsBranch (state : Contents) (request : Call) (has more most : ℕ)
   pub limit : most ≡ state.limits.catches
   pub full : most < has + more
 
--- a branch has this number of changes, and with those of a pull it would exceed its limit
+-- a branch has this number of catches, and would exceed its limit with those of a pull
 pub record FillsWithPull (state : Contents) (request : Call) (has more most : ℕ) : Type 0 where
   pub from : List ℕ
   pub to : List ℕ
@@ -142,8 +142,8 @@ pub record FillsWithPull (state : Contents) (request : Call) (has more most : �
   pub limit : most ≡ state.limits.catches
   pub full : most < has + more
 
--- the change of a number, counted from 1, is an edit of the file of a path, its sides have these numbers of lines,
--- and one of these is too great
+-- this change, counted from 1, is an edit of the file at this path; its sides have these numbers of lines, and one of
+-- these is above the limit
 pub record IsLongAt (changes : List Primitive) (number : ℕ) (path : List ℕ) (old new : ℕ) : Type 0 where
   pub before : ℕ
   pub numbered : number ≡ suc before
@@ -154,14 +154,14 @@ pub record IsLongAt (changes : List Primitive) (number : ℕ) (path : List ℕ) 
   pub counts_new : new ≡ length hunk.new
   pub long : has_long_side (Hunk hunk) ≡ true
 
--- a record has such a change
+-- the call is a record with a change that has a side that is too long
 pub record HasLongSide (state : Contents) (request : Call) (number : ℕ) (path : List ℕ) (old new : ℕ) : Type 0 where
   pub catches : List Catch
   pub changes : List Primitive
   pub in_branch : RecordsIn state request catches changes
   pub is_long : IsLongAt changes number path old new
 
--- the changes of a record stop at one of them, from the tree of their branch
+-- the call is a record whose changes, applied to the tree of its branch, stop at one of them
 pub record RecordStopsAt (state : Contents) (request : Call) (stop : Stop) : Type 0 where
   pub catches : List Catch
   pub changes : List Primitive

@@ -1,4 +1,4 @@
--- What a refusal says of its call is true.
+-- What a refusal says of its call, and that it is true.
 use Rattle.std.specs.Prelude.{◌≡◌, ◌⊎◌, ℕ, true, List, [], Option, None, Some, Err}
 use Rattle.camp_branch.specs.Branches.{first_lacked}
 use Rattle.camp_branch.specs.declared.faults.Blocked.{Blocked}
@@ -15,7 +15,7 @@ use Rattle.camp_repo.specs.States.{Contents, catches_of, stands}
 use Rattle.camp_repo.specs.Steps.{listed, refusal_of, refused, step, wanted}
 use Rattle.camp_why.specs.Laws.{IsExplained, ChangesAreInRange}
 
--- a call names a branch that has to exist
+-- a call names this branch, which has to exist
 abbrev pub NeedsBranch : Call → List ℕ → Type 0
 NeedsBranch (call.Branch new from) name = from ≡ name
 NeedsBranch (call.Record branch patch changes) name = branch ≡ name
@@ -25,26 +25,26 @@ NeedsBranch (call.Tree branch) name = branch ≡ name
 NeedsBranch (call.Conflicts branch) name = branch ≡ name
 NeedsBranch (call.Names branch) name = branch ≡ name
 
--- it names one that does not exist
+-- a call names a branch that does not exist
 abbrev pub LacksBranch : Contents → Call → List ℕ → Type 0
 LacksBranch state request name = NeedsBranch request name × (catches_of state.branches name ≡ None)
 
--- it creates a branch that exists
+-- a call creates a branch that exists already
 abbrev pub MakesAgain : Contents → Call → List ℕ → Type 0
 MakesAgain state (call.Branch new from) name = (new ≡ name) × ((catches : List Catch) × Has state name catches)
 MakesAgain state other name = ⊥
 
--- it records a patch that some branch has
+-- a call records a patch that some branch has already
 abbrev pub RecordsAgain : Contents → Call → List ℕ → Type 0
 RecordsAgain state (call.Record branch patch changes) name = (patch ≡ name) × (stands state.branches name ≡ true)
 RecordsAgain state other name = ⊥
 
--- a branch lacks a patch, the first of those that are listed
+-- a branch lacks a listed patch, and this is the first that it lacks
 abbrev pub LacksOf : Contents → List ℕ → Option (List (List ℕ)) → List ℕ → Type 0
 LacksOf state branch names name =
     (catches : List Catch) × Has state branch catches × (first_lacked catches (listed catches names) ≡ Some name)
 
--- a call lists a patch that the branch it takes patches from lacks
+-- a call lists a patch that the branch from which it takes patches lacks
 abbrev pub LacksPatch : Contents → Call → List ℕ → Type 0
 LacksPatch state (call.Pull from to names) name = LacksOf state from names name
 LacksPatch state (call.Obliterate branch names) name = LacksOf state branch (Some names) name
@@ -56,13 +56,13 @@ HasAll state from to names =
     (theirs : List Catch) × (ours : List Catch) × Has state from theirs × Has state to ours
     × (wanted ours (listed theirs names) ≡ [])
 
--- a call would do nothing
+-- a call would change nothing
 abbrev pub DoesNothing : Contents → Call → Type 0
 DoesNothing state (call.Pull from to names) = HasAll state from to names
 DoesNothing state (call.Obliterate branch names) = names ≡ []
 DoesNothing state other = ⊥
 
--- this is why patches can't be pulled or taken out
+-- patches can't be pulled or taken out, and this is why
 abbrev pub IsBlockedBy : Contents → Call → Blocked → Type 0
 IsBlockedBy state (call.Pull from to names) why =
     (theirs : List Catch) × (ours : List Catch) × Has state from theirs × Has state to ours
@@ -71,11 +71,11 @@ IsBlockedBy state (call.Obliterate branch names) why =
     (catches : List Catch) × Has state branch catches × (obliterated catches names ≡ Err why)
 IsBlockedBy state other why = ⊥
 
--- the refusal says why
+-- the refusal explains why patches can't be pulled or taken out
 abbrev pub IsBlocked : Contents → Call → Refusal → Type 0
 IsBlocked state request refusal = (why : Blocked) × (refusal_of why ≡ refusal) × IsBlockedBy state request why
 
--- a branch is pulled into itself
+-- a call pulls a branch into itself
 abbrev pub PullsItself : Call → List ℕ → Type 0
 PullsItself (call.Pull from to names) name = (from ≡ name) × (to ≡ name)
 PullsItself other name = ⊥
@@ -94,7 +94,7 @@ IsGround state request (refusal.Diverged name) = IsBlocked state request (refusa
 IsGround state request (refusal.NoMerge left right) = IsBlocked state request (refusal.NoMerge left right)
 IsGround state request (refusal.SameBranch name) = PullsItself request name
 
--- if a lawful state refuses a call, what its refusal says is true
+-- if a call is refused at a lawful state, what the refusal says is true
 abbrev pub RefusalsHaveGrounds : Type 0
 RefusalsHaveGrounds =
     (state : Contents) (request : Call) (refusal : Refusal) → IsLawfulState state → IsCall request → ChangesAreInRange request →

@@ -52,7 +52,7 @@ begins_inner line =
     || (begins_with (codes "add") (words_of line) || (begins_with (codes "remove") (words_of line)
     || begins_with (codes "edit") (words_of line))))
 
--- a line is `end` or empty, apart from a carriage return
+-- a line is `end` or empty, not counting a carriage return
 abbrev pub is_returned_end : List ℕ → Bool
 is_returned_end line = bytes_eq line (codes "end\r") || is_return line
 
@@ -68,7 +68,7 @@ is_end line = bytes_eq line (codes "end")
 abbrev pub is_empty_line : List ℕ → Bool
 is_empty_line line = length line == 0
 
--- a line is what is read for one with too many bytes: it has 4,098 bytes, the second of them `?`
+-- a line is a replacement for one with too many bytes: it has 4,098 bytes, the second of them `?`
 abbrev pub is_overlong : List ℕ → Bool
 is_overlong line = length line == 4098 && slice_index line 1 == 63
 
@@ -88,49 +88,49 @@ begins_quoted word = begins (codes "\"") word || begins (codes "'") word
 abbrev pub is_strange : ℕ → Bool
 is_strange byte = not (byte == tab || is_printing byte)
 
--- the first word, or an empty one
+-- the first word, or an empty one if there is none
 abbrev pub first_word : List (List ℕ) → List ℕ
 first_word [] = []
 first_word (word ∷ words) = word
 
--- the first word that is not a name, or an empty one
+-- the first word that is not a name, or an empty one if there is none
 abbrev pub misnamed : List (List ℕ) → List ℕ
 misnamed [] = []
 misnamed (word ∷ words) = if is_name word then misnamed words else word
 
--- the last two words, given these two
+-- the last two words; the two given ones come before the first word
 abbrev pub last_words : List ℕ → List ℕ → List (List ℕ) → List ℕ × List ℕ
 last_words before last [] = (before, last)
 last_words before last (word ∷ words) = last_words last word words
 
--- the line of a call: the rest after `whatif`, or else the whole line
+-- the line of a call: after `whatif` the rest, else the whole line
 abbrev pub call_part : List ℕ → List ℕ
 call_part line = if begins_with (codes "whatif") (words_of line) then after_word line else line
 
--- the word that says what a call does: the fourth of a record, and the first of any other
+-- the word that names the command: of a record the fourth, of any other call the first
 abbrev pub call_word : List ℕ → List ℕ
 call_word line =
     if begins_with (codes "record") (words_of line)
     then first_word (words_of (after_word (after_word (after_word line))))
     else first_word (words_of line)
 
--- the word that should be a command: the one after `help`, or that of the call
+-- the word that should be a command: after `help` the second, else the one that names the call's command
 abbrev pub command_word : List ℕ → List ℕ
 command_word line =
     if begins_with (codes "help") (words_of line) then first_word (words_of (after_word line)) else call_word (call_part line)
 
--- the word that should be a path: the last but one in the line of an edit, else the last
+-- the word that should be a path: in the line of an edit the last but one, else the last
 abbrev pub path_word : List ℕ → List ℕ
 path_word line =
     if begins_edit (words_of (call_part line)) then (last_words [] [] (words_of line)).0 else (last_words [] [] (words_of line)).1
 
--- the word that should be a number: the last
+-- the word that should be a number: the last one
 abbrev pub number_word : List ℕ → List ℕ
 number_word line = (last_words [] [] (words_of line)).1
 
 -- ---- the hint
 
--- the hint on a word that is not a command, or not a name; if there is none, this other hint
+-- the hint on a word that is not a command, or not a name; if no hint applies, the other hint
 abbrev pub word_hint : List ℕ → Hint → Hint
 word_hint word other =
     if ends_in_return word then seen.CarriageReturn
@@ -153,7 +153,7 @@ form_hint line =
     else (if begins_inner line then seen.OfInner
     else seen.Nothing))))
 
--- the hint on a line with a word that should be a command, by that word and the other words
+-- the hint on a line with an unknown command, given that word and the other words
 abbrev pub line_hint : List ℕ → List ℕ → Hint → Hint
 line_hint line word other =
     if is_overlong line then seen.TooLong
@@ -174,11 +174,11 @@ path_hint word =
     else (if list_any is_strange word then seen.Strange
     else seen.Nothing)
 
--- the number of a refusal has a leading zero, where only LINE may have one
+-- a word is the number of a refusal with a leading zero, which only LINE may have
 abbrev pub has_zero_in_front : List ℕ → Bool
 has_zero_in_front line = begins_with (codes "help") (words_of line) && begins_zero (number_word line)
 
--- the hint on a line with a number, or on the `end` of an edit whose numbers are too great
+-- the hint on a line with a number, or on the `end` of an edit that reaches too far
 abbrev pub number_hint : List ℕ → Hint
 number_hint line =
     if is_end line then seen.TooFar
@@ -210,7 +210,7 @@ edit_hint line =
     else (if begins (codes "+") line then seen.Nothing
     else unsigned_hint line))))))
 
--- the hint on a line that has a fault of a kind
+-- the hint on a line with a fault of this kind
 abbrev pub hint : FaultKind → List ℕ → Hint
 hint UnknownCommand line = line_hint line (command_word line) (form_hint line)
 hint BadGroup line = line_hint line (first_word (words_of line)) seen.Nothing
@@ -224,7 +224,7 @@ hint other line = seen.Nothing
 
 -- ---- the meaning of a hint
 
--- the word that has the fault; the line, if the kind names no word
+-- the word that has the fault or, if a fault of this kind is not about one word, the line
 abbrev pub faulty : FaultKind → List ℕ → List ℕ
 faulty UnknownCommand line = command_word line
 faulty BadGroup line = first_word (words_of line)
@@ -233,21 +233,21 @@ faulty BadPath line = path_word line
 faulty BadNumber line = number_word line
 faulty other line = line
 
--- it ends with a carriage return; if there are too few or too many words, one of them is only a carriage return
+-- it ends with a carriage return; or, with too few or too many words, one of them is only a carriage return
 abbrev pub has_return : FaultKind → List ℕ → Bool
 has_return WrongNumberOfWords line = list_any is_return (words_of line)
 has_return kind line = ends_in_return (faulty kind line)
 
--- it has a quotation mark; if there are too few or too many words, one of them begins with it
+-- it has a quotation mark; or, with too few or too many words, one of them begins with one
 abbrev pub has_quote : FaultKind → List ℕ → Bool
 has_quote WrongNumberOfWords line = list_any begins_quoted (words_of line)
 has_quote kind line = list_any is_quote (faulty kind line)
 
--- a fault of the word that should be a command, or the change of a group
+-- the fault is one of the word that should be a command, or of a change in a group
 abbrev pub IsOfCommand : FaultKind → Type 0
 IsOfCommand kind = (kind ≡ UnknownCommand) ⊎ (kind ≡ BadGroup)
 
--- what a hint says of a line with a fault of a kind is true; a hint that only lines of some kinds can have is given
+-- what a hint says of a line with a fault of this kind is true; a hint that only some kinds of faults can have is given
 -- for those kinds only
 abbrev pub HintIsTrue : FaultKind → List ℕ → Hint → Type 0
 HintIsTrue kind line seen.Nothing = Unit {0}
@@ -280,7 +280,7 @@ pub record HasNoWordHint (word : List ℕ) : Type 0 where
   pub quotes : list_any is_quote word ≡ false
   pub capitals : list_any is_capital_letter word ≡ false
 
--- a line begins with no sign and with no word that says where it belongs
+-- a line has no sign, and its first word is not one of another kind of line
 pub record HasNoForm (line : List ℕ) : Type 0 where
   pub signed : begins_signed (first_word (words_of line)) ≡ false
   pub of_script : begins_with (codes "client") (words_of line) ≡ false
@@ -289,7 +289,7 @@ pub record HasNoForm (line : List ℕ) : Type 0 where
   pub helps : begins_with (codes "help") (words_of line) ≡ false
   pub inner : begins_inner line ≡ false
 
--- no hint applies to a line with a fault of a kind
+-- no hint applies to a line with a fault of this kind
 abbrev pub ShowsNothing : FaultKind → List ℕ → Type 0
 ShowsNothing UnknownCommand line = (is_overlong line ≡ false) × HasNoWordHint (command_word line) × HasNoForm line
 ShowsNothing BadGroup line =
@@ -305,7 +305,7 @@ ShowsNothing BadLine line = is_overlong line ≡ false
 ShowsNothing BadEdit line = (is_overlong line ≡ false) × (begins (codes "+") line ≡ true)
 ShowsNothing other line = Unit {0}
 
--- for each kind and each line: the hint is true, and if there is none, none applies
+-- for each kind of fault and each line, the hint is true; and if there is none, no hint applies
 pub record HintsAreSeen : Type 0 where
   pub reported : (kind : FaultKind) (line : List ℕ) → HintIsTrue kind line (hint kind line)
   pub none : (kind : FaultKind) (line : List ℕ) → hint kind line ≡ seen.Nothing → ShowsNothing kind line

@@ -1,4 +1,4 @@
--- The laws of causes.
+-- The laws of causes, reasons and hints.
 use Rattle.std.specs.Prelude.{◌≡◌, Bool, true, None, Some}
 use Rattle.std.specs.List.{AllByRecursion}
 use Rattle.camp_base.specs.Trees.{Files}
@@ -16,30 +16,30 @@ use Rattle.camp_why.specs.Misfits.{IsMisfit, find_misfit}
 use Rattle.camp_why.specs.declared.causes.Cause.{Cause}
 use Rattle.camp_why.specs.declared.misfits.Misfit.{Misfit}
 
--- the reported reason is a true one, and if there is one, the change does not apply; if there is none, it applies
+-- the reported reason is true, and then the change does not apply; if none is reported, it applies
 pub record MisfitsAreReasons : Type 0 where
   pub reported : (change : Primitive) (tree : Files) (why : Misfit) → find_misfit change tree ≡ Some why → IsMisfit change tree why
   pub prevents : (change : Primitive) (tree next : Files) (why : Misfit) → IsMisfit change tree why → ¬ (Applies change tree next)
   pub none : (change : Primitive) (tree : Files) → InRange change → find_misfit change tree ≡ None → (next : Files) × Applies change tree next
 
--- a refusal of a call has a cause that it does not say: a limit, or a change of a record
+-- a refusal of a call has a cause that the refusal alone does not say: a limit, or a change of a record
 abbrev pub wants_cause : Call → Refusal → Bool
 wants_cause (call.Record branch name changes) refusal = is_of_changes refusal
 wants_cause other refusal = is_of_limit refusal
 
--- the reported cause is one of this refusal, and what it says is true
+-- the reported cause explains this refusal, and what it says is true
 pub record IsExplained (state : Contents) (request : Call) (refusal : Refusal) : Type 0 where
   pub cause : Cause
   pub reported : explained state request refusal ≡ Some cause
   pub of : refusal_by cause ≡ refusal
   pub is_so : IsSo state request cause
 
--- the changes of a call are in range, as each change that a program holds is
+-- the changes of a call are in range, as all changes are that a program can represent
 abbrev pub ChangesAreInRange : Call → Type 0
 ChangesAreInRange (call.Record branch name changes) = AllByRecursion InRange changes
 ChangesAreInRange other = Unit {0}
 
--- if a call is refused at a state, and its refusal does not say it all, a cause is reported
+-- if a call is refused at a state and the refusal alone does not say why, a cause is reported
 abbrev pub RefusalsAreExplained : Type 0
 RefusalsAreExplained =
     (state : Contents) (request : Call) (refusal : Refusal) → IsLawfulState state → IsCall request → ChangesAreInRange request →

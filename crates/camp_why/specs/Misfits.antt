@@ -11,18 +11,18 @@ use Rattle.camp_why.specs.declared.misfits.Misfit.TheVariants.{EndsBefore, FileI
 
 -- ---- the reported reason
 
--- why a file can't be added, by what is at its path
+-- why a file can't be added, given what is at its path; none if it can
 abbrev pub add_misfit : Option Lines → Option Misfit
 add_misfit None = None
 add_misfit (Some lines) = Some FileIsThere
 
--- why a file can't be removed
+-- why a file can't be removed, given what is at its path; none if it can
 abbrev pub remove_misfit : Option Lines → Option Misfit
 remove_misfit None = Some NoFile
 remove_misfit (Some []) = None
 remove_misfit (Some (line ∷ lines)) = Some (HasLines (length (line ∷ lines)))
 
--- the first line, counted from a number, that differs from the one to be removed
+-- the first line that differs from the old line of an edit, counted from a number; none if no line does
 abbrev pub other_line : ℕ → Lines → Lines → Option Misfit
 other_line at [] lines = None
 other_line at (expected ∷ old) [] = None
@@ -33,27 +33,27 @@ other_line at (expected ∷ old) (actual ∷ lines) =
 abbrev pub lacking : Edit → ℕ → Option (List ℕ)
 lacking hunk has = slice_get hunk.old (has - (hunk.line - 1))
 
--- the line, counted from 1, at which that one would be
+-- the line number, counted from 1, that this old line would have
 abbrev pub lacking_at : Edit → ℕ → ℕ
 lacking_at hunk has = suc (hunk.line - 1 + (has - (hunk.line - 1)))
 
--- the reason that a file of this length ends before the edit does
+-- the reason that a file of this length ends before an edit does; none if it does not
 abbrev pub ends_before : Edit → ℕ → Option Misfit
 ends_before hunk has =
     if nat_lt has (hunk.line - 1 + length hunk.old)
     then Some (EndsBefore has (hunk.line - 1 + length hunk.old) (lacking_at hunk has) (lacking hunk has)) else None
 
--- the first reason, or else the second
+-- the first reason, if there is one, else the second
 abbrev pub misfit_or : Option Misfit → Option Misfit → Option Misfit
 misfit_or None second = second
 misfit_or (Some why) second = Some why
 
--- why an edit does not apply to the lines of a file: a line differs, or else the file ends too early
+-- why an edit does not apply to these lines of a file: a line differs, or else the file ends too early
 abbrev pub lines_misfit : Edit → Lines → Option Misfit
 lines_misfit hunk lines =
     misfit_or (other_line hunk.line hunk.old (drop (hunk.line - 1) lines)) (ends_before hunk (length lines))
 
--- why an edit does not apply, by what is at its path
+-- why an edit does not apply, given what is at its path
 abbrev pub edit_misfit : Edit → Option Lines → Option Misfit
 edit_misfit hunk None = Some NoFile
 edit_misfit hunk (Some lines) = lines_misfit hunk lines
@@ -66,25 +66,25 @@ find_misfit (Hunk hunk) tree = edit_misfit hunk (get tree hunk.path)
 
 -- ---- the meaning of a reason
 
--- a change is one of a file that exists
+-- a change needs a file to exist
 abbrev pub wants_file : Primitive → Bool
 wants_file (Add path) = false
 wants_file (Remove path) = true
 wants_file (Hunk hunk) = true
 
--- a file is to be added, and there is one
+-- a change adds a file at a path that has one
 pub record AddsAgain (change : Primitive) (tree : Files) : Type 0 where
   pub path : List ℕ
   pub adds : change ≡ Add path
   pub lines : Lines
   pub found : get tree path ≡ Some lines
 
--- a file is to be removed or edited, and there is none
+-- a change removes or edits a file at a path that has none
 pub record ChangesNone (change : Primitive) (tree : Files) : Type 0 where
   pub wants : wants_file change ≡ true
   pub absent : get tree (path_of change) ≡ None
 
--- a file is to be removed, and it has this number of lines
+-- a change removes a file that has this number of lines
 pub record RemovesLines (change : Primitive) (tree : Files) (count : ℕ) : Type 0 where
   pub path : List ℕ
   pub removes : change ≡ Remove path
@@ -93,19 +93,19 @@ pub record RemovesLines (change : Primitive) (tree : Files) (count : ℕ) : Type
   pub counts : count ≡ length lines
   pub some : count ≢ 0
 
--- a file is to be edited, and has these lines
+-- a change edits a file that has these lines
 pub record Edits (change : Primitive) (tree : Files) (hunk : Edit) (lines : Lines) : Type 0 where
   pub edits : change ≡ Hunk hunk
   pub found : get tree hunk.path ≡ Some lines
 
--- the old lines of an edit, of this number, are those of the file, as far as it has any
+-- the first `count` old lines of an edit are those of the file, as far as the file has any there
 abbrev pub AreInFile : Edit → Lines → ℕ → Type 0
 AreInFile hunk lines count =
     (at : ℕ) (actual expected : List ℕ) → at < count → slice_get hunk.old at ≡ Some expected →
     slice_get lines (hunk.line - 1 + at) ≡ Some actual → actual ≡ expected
 
--- an edit wants at least this number of lines, and the file has fewer: the old lines up to its end are the same, and
--- this is the first one past it, at this line
+-- an edit needs at least this number of lines, and the file has fewer; its old lines up to the end of the file are the
+-- file's, and this is the first one after that, at this line number
 pub record ReachesBehind (change : Primitive) (tree : Files) (has wants at : ℕ) (lacks : Option (List ℕ)) : Type 0 where
   pub hunk : Edit
   pub lines : Lines
@@ -117,7 +117,7 @@ pub record ReachesBehind (change : Primitive) (tree : Files) (has wants at : ℕ
   pub is_lacked : lacks ≡ slice_get hunk.old (length lines - (hunk.line - 1))
   pub is_at : at ≡ suc (hunk.line - 1 + (length lines - (hunk.line - 1)))
 
--- at a line, counted from 1, the file differs from what an edit removes, and at none before it
+-- the first line that differs from the old lines of an edit is at this line number, counted from 1
 pub record MeetsOther (change : Primitive) (tree : Files) (at : ℕ) (actual expected : List ℕ) : Type 0 where
   pub hunk : Edit
   pub lines : Lines
@@ -129,7 +129,7 @@ pub record MeetsOther (change : Primitive) (tree : Files) (at : ℕ) (actual exp
   pub other : actual ≢ expected
   pub alike : AreInFile hunk lines before
 
--- this is why a change does not apply to a tree
+-- a change does not apply to a tree, and this is why
 abbrev pub IsMisfit : Primitive → Files → Misfit → Type 0
 IsMisfit change tree FileIsThere = AddsAgain change tree
 IsMisfit change tree NoFile = ChangesNone change tree

@@ -1,4 +1,4 @@
-//! Why a call is refused, if its refusal does not say it all.
+//! The cause of a refusal, if the refusal alone does not say it: a limit, or a change of a record.
 ghost use Rattle.std.specs.Prelude.{◌≡◌, IfOk};
 ghost use Rattle.camp_repo.specs.States.{catches_of};
 ghost use Rattle.camp_why.specs.Causes.{explained, first_long, full_with_pull, is_of_changes, is_of_limit, long_cause, record_cause};
@@ -9,7 +9,7 @@ use camp_prim::Primitive;
 use camp_repo::{Call, MAX_SIDE_LINES, Names, Refusal, State, count_brought};
 use std::alloc::AllocError;
 
-/// Why a call is refused, if its refusal does not say it all.
+/// The cause of a refusal.
 #[derive(Debug, Drop)]
 pub enum Cause {
     /// The repository has as many branches as its limits allow.
@@ -17,32 +17,32 @@ pub enum Cause {
         count: usize,
         most: usize,
     },
-    /// A branch that has `has` changes would exceed `most` with `more` of a record.
+    /// The branch has `has` catches, and would exceed `most` with the `more` of a record.
     FullBranch {
         has: usize,
         more: usize,
         most: usize,
     },
-    /// A branch that has `has` changes would exceed `most` with `more` of a pull.
+    /// The branch has `has` catches, and would exceed `most` with the `more` of a pull.
     FullWithPull {
         has: usize,
         more: usize,
         most: usize,
     },
-    /// A side of an edit is too long: that of the change of this number, counted from 1; the path of its
-    /// file, and the number of lines of each side.
+    /// A side of an edit is too long. Contains the number of the change, counted from 1, the path of its file, and the
+    /// number of lines of each side.
     LongSide {
         change: usize,
         path: Path,
         old: usize,
         new: usize,
     },
-    /// A record stops at a change.
+    /// The record stops at this change.
     Stops(Stop),
 }
 
-/// Returns why a call is refused, given the state at which it was refused and the refusal; for others the
-/// result may be wrong. `None` if the refusal says it all.
+/// Returns why a call is refused, given the refusal and the state at which it was refused; with any others the result
+/// may be wrong. `None` if the refusal alone says it.
 pub fn explain(state: &State, call: &Call, refusal: &Refusal) -> Result<Option<Cause>, AllocError>
     ensures exact { IfOk result (λ found. found ≡ explained state.now call.now refusal.now) }
 {
@@ -64,7 +64,7 @@ pub fn explain(state: &State, call: &Call, refusal: &Refusal) -> Result<Option<C
     }
 }
 
-// True if a refusal says that a limit would be exceeded.
+// True if a refusal is `TooLarge`.
 fn is_of_limit(refusal: &Refusal) -> bool
     ensures { result ≡ is_of_limit refusal.now }
 {
@@ -99,7 +99,7 @@ fn pull_cause(
     Ok(Some(Cause::FullWithPull { has, more, most }))
 }
 
-// Returns why changes are not recorded in a branch.
+// Returns why a record of these changes is refused in a branch.
 fn record_cause(
     state: &State,
     branch: &Name,
@@ -123,7 +123,7 @@ fn record_cause(
     Ok(stop.map(Cause::Stops))
 }
 
-// Returns the first change that has a side that is too long.
+// Returns the first change with a side that is too long, as a cause.
 fn first_long(changes: &[Primitive]) -> Result<Option<Cause>, AllocError>
     ensures { IfOk result (λ found. found ≡ first_long 1 changes.now) }
 {
@@ -135,7 +135,7 @@ fn first_long(changes: &[Primitive]) -> Result<Option<Cause>, AllocError>
     Ok(None)
 }
 
-// Returns the cause that the change of this number has a side that is too long.
+// Returns the cause that the change with this number has a side that is too long; `None` if it has not.
 fn long_cause(at: usize, change: &Primitive) -> Result<Option<Cause>, AllocError>
     ensures { IfOk result (λ found. found ≡ long_cause at change.now) }
 {

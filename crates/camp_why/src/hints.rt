@@ -8,7 +8,7 @@ ghost use Rattle.camp_why.specs.Hints.{begins_blank, begins_end, begins_inner, b
 use camp_base::Name;
 use camp_script::{FaultKind, Words, after_word, begins_edit, begins_with};
 
-/// Bytes of what is read for a line that is too long.
+/// The length of the replacement for a line that is too long.
 const CUT_BYTES: usize = 4098;
 
 /// A hint on a line that has a fault.
@@ -16,49 +16,49 @@ const CUT_BYTES: usize = 4098;
 pub enum Hint {
     /// No hint.
     Nothing,
-    /// It begins with the sign of a line of a body, but is in none.
+    /// The line begins with the sign of a line of a body, but is in none.
     OfBody,
-    /// It is `client`, which is allowed only in scripts.
+    /// The line is `client`, which is allowed only in scripts.
     OfScript,
-    /// It is a record, and its fourth word is none of add, remove, edit and group.
+    /// The line is a record whose fourth word is none of add, remove, edit and group.
     NoChange,
-    /// It has the first word `whatif`, and no call after it.
+    /// The first word is `whatif`, and no call follows.
     NoCall,
-    /// It has the first word `help`, and no command after it.
+    /// The first word is `help`, and no command follows.
     NoTopic,
-    /// It has the first word of a line of a body or a group, but is in none.
+    /// The first word is that of a line of a body or a group, but the line is in none.
     OfInner,
-    /// It is what is read for a line that is too long.
+    /// The line is a replacement for one that is too long.
     TooLong,
-    /// It ends with a carriage return, or a word does, or is only that.
+    /// The line or a word of it ends with a carriage return, or a word is only that.
     CarriageReturn,
     /// A word has a byte that is not a printable character of ASCII.
     Strange,
     /// A word has a quotation mark.
     Quotes,
-    /// A word has a capital letter, or the `end` of a body has.
+    /// A word, or the `end` of a body, has a capital letter.
     Capitals,
     /// A number is 0.
     Zero,
-    /// The number of a refusal begins with 0, and is another one.
+    /// The number of a refusal has a leading zero, and so is the number of none.
     ZeroInFront,
-    /// It is empty.
+    /// The line is empty.
     Empty,
-    /// It begins with a blank.
+    /// The line begins with a blank.
     Blank,
-    /// It is `end`: the body has no line.
+    /// The line is `end`, but the body has no line.
     NoLine,
-    /// It is `end`: LINE and the lines of the body add up to too much.
+    /// The line is `end`, but LINE and the lines of the body add up to too much.
     TooFar,
-    /// It has the first word `end`, and others.
+    /// The first word is `end`, but others follow.
     MoreThanEnd,
-    /// It begins with `-`, but comes after a new line.
+    /// The line begins with `-`, but comes after a new line.
     OldAfterNew,
-    /// It has no sign before it.
+    /// The line has no sign.
     NoSign,
 }
 
-/// Returns the hint on a line that has a fault of a kind.
+/// Returns the hint on a line with a fault of this kind.
 pub fn find_hint(kind: FaultKind, line: &[u8]) -> Hint
     ensures exact { result ≡ hint kind line.now }
 {
@@ -75,7 +75,7 @@ pub fn find_hint(kind: FaultKind, line: &[u8]) -> Hint
     }
 }
 
-// Returns the hint on a line with a word that should be a command, by that word and the other words.
+// Returns the hint on a line with an unknown command, given that word and the other words.
 fn line_hint(line: &[u8], word: &[u8], other: Hint) -> Hint
     ensures { result ≡ line_hint line.now word.now other }
 {
@@ -201,7 +201,7 @@ fn unsigned_hint(line: &[u8]) -> Hint
     Hint::NoSign
 }
 
-// Returns the hint on a word that is not a command, or not a name; if there is none, another hint.
+// Returns the hint on a word that is not a command, or not a name; if no hint applies, the other hint.
 fn word_hint(word: &[u8], other: Hint) -> Hint
     ensures { result ≡ word_hint word.now other }
 {
@@ -220,7 +220,7 @@ fn word_hint(word: &[u8], other: Hint) -> Hint
     other
 }
 
-// Returns the word that should be a command: the one after `help`, or that of the call.
+// Returns the word that should be a command: after `help` the second, else the one that names the call's command.
 fn command_word(line: &[u8]) -> &[u8]
     ensures { result.now ≡ command_word line.now }
 {
@@ -230,7 +230,7 @@ fn command_word(line: &[u8]) -> &[u8]
     call_word(call_part(line))
 }
 
-// Returns the word that says what a call does: the fourth of a record, and the first of any other.
+// Returns the word that names the command: of a record the fourth, of any other call the first.
 fn call_word(line: &[u8]) -> &[u8]
     ensures { result.now ≡ call_word line.now }
 {
@@ -240,7 +240,7 @@ fn call_word(line: &[u8]) -> &[u8]
     first_word(line)
 }
 
-/// Returns the line of a call: the rest after `whatif`, or else the whole line.
+/// Returns the line of a call: after `whatif` the rest, else the whole line.
 pub fn call_part(line: &[u8]) -> &[u8]
     ensures exact { result.now ≡ call_part line.now }
 {
@@ -250,7 +250,7 @@ pub fn call_part(line: &[u8]) -> &[u8]
     line
 }
 
-// Returns the word of a line that should be a path: the last but one in the line of an edit, else the last.
+// Returns the word of a line that should be a path: in the line of an edit the last but one, else the last.
 fn path_word(line: &[u8]) -> &[u8]
     ensures { result.now ≡ path_word line.now }
 {
@@ -261,7 +261,7 @@ fn path_word(line: &[u8]) -> &[u8]
     last
 }
 
-// Returns the word of a line that should be a number: the last.
+// Returns the word of a line that should be a number: the last one.
 fn number_word(line: &[u8]) -> &[u8]
     ensures { result.now ≡ number_word line.now }
 {
@@ -281,14 +281,14 @@ fn last_words(line: &[u8]) -> (&[u8], &[u8])
     (before, last)
 }
 
-// Returns the first word of a line, or an empty one.
+// Returns the first word of a line, or an empty one if there is none.
 fn first_word(line: &[u8]) -> &[u8]
     ensures { result.now ≡ first_word (words_of line.now) }
 {
     Words::new(line).next().unwrap_or(&[])
 }
 
-/// Returns the first word of a line that is not a name, or an empty one.
+/// Returns the first word of a line that is not a name, or an empty one if there is none.
 pub fn misnamed(line: &[u8]) -> &[u8]
     ensures exact { result.now ≡ misnamed (words_of line.now) }
 {
@@ -356,7 +356,7 @@ fn begins_inner(line: &[u8]) -> bool
         || begins_with(line, b"edit")
 }
 
-// True if a line is `end` or empty, apart from a carriage return.
+// True if a line is `end` or empty, not counting a carriage return.
 fn is_returned_end(line: &[u8]) -> bool
     ensures { result ≡ is_returned_end line.now }
 {
@@ -393,7 +393,7 @@ fn is_end(line: &[u8]) -> bool
     line == b"end".as_slice()
 }
 
-// True if a line is what is read for one that is too long.
+// True if a line is the replacement for one that is too long.
 fn is_overlong(line: &[u8]) -> bool
     ensures { result ≡ is_overlong line.now }
 {
@@ -412,7 +412,7 @@ fn has_capitals(word: &[u8]) -> bool
     word.iter().any(|byte| matches!(byte, b'A'..=b'Z'))
 }
 
-// True if some byte is neither a printable character of ASCII nor a blank.
+// True if a byte is neither a printable character of ASCII nor a blank.
 fn has_strange(bytes: &[u8]) -> bool
     ensures { result ≡ list_any is_strange bytes.now }
 {

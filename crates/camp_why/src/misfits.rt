@@ -11,11 +11,11 @@ use std::alloc::AllocError;
 /// Why a change does not apply to a tree.
 #[derive(Debug, Drop)]
 pub enum Misfit {
-    /// A file is to be added, and there is one.
+    /// A file would be added where there is one.
     FileIsThere,
-    /// A file is to be removed or edited, and there is none.
+    /// A file would be removed or edited where there is none.
     NoFile,
-    /// A file is to be removed, and it has this number of lines.
+    /// A file would be removed that has this number of lines.
     HasLines(usize),
     /// An edit reaches past the last line of the file: the file has `has` lines, and the edit needs at least
     /// `wants`. `lacks` is the first old line past its end, and would be line `at`, counted from 1.
@@ -25,7 +25,7 @@ pub enum Misfit {
         at: usize,
         lacks: Option<Line>,
     },
-    /// At a line, counted from 1, the file differs from what an edit removes.
+    /// At this line, counted from 1, the file differs from what an edit removes.
     OtherLine {
         at: usize,
         actual: Line,
@@ -68,7 +68,7 @@ fn edit_misfit(hunk: &Hunk, tree: &Tree) -> Result<Option<Misfit>, AllocError>
     }
 }
 
-// Returns the first line that differs from the one the edit removes.
+// Returns the first line that differs from the old line of an edit; `None` if no line does.
 fn other_line(hunk: &Hunk, lines: &SharedList<Line>) -> Result<Option<Misfit>, AllocError>
     ensures { IfOk result (λ found.
         found ≡ other_line hunk.now.line hunk.now.old (drop (hunk.now.line - 1) lines.now)) }
@@ -92,7 +92,7 @@ fn other_line(hunk: &Hunk, lines: &SharedList<Line>) -> Result<Option<Misfit>, A
     Ok(None)
 }
 
-// Returns the reason that a file of this length ends before the edit does.
+// Returns the reason that a file of this length ends before an edit does; `None` if it does not.
 fn ends_before(hunk: &Hunk, has: usize) -> Result<Option<Misfit>, AllocError>
     ensures { IfOk result (λ found. found ≡ ends_before hunk.now has) }
 {

@@ -1,4 +1,4 @@
-//! The change at which a record stops.
+//! The change at which a record stops, and why.
 ghost use Rattle.std.specs.Prelude.{◌≡◌, IfOk, None, Some};
 ghost use Rattle.camp_prim.specs.Applied.{applied};
 ghost use Rattle.std.specs.FinMap.{get};
@@ -10,7 +10,7 @@ use camp_prim::Primitive;
 use camp_repo::MAX_FILE_LINES;
 use std::alloc::AllocError;
 
-/// Where a record stops.
+/// The change at which a record stops.
 #[derive(Debug, Drop)]
 pub struct Stop {
     /// The number of the change, counted from 1.
@@ -23,13 +23,13 @@ pub struct Stop {
 /// Why a record stops at a change.
 #[derive(Debug, Drop)]
 pub enum Hindrance {
-    /// The change does not apply to the tree that those before it give.
+    /// The change does not apply to the tree that the changes before it give.
     Misfit(Misfit),
-    /// The file would have this number of lines.
+    /// The file would have this number of lines, more than a record allows.
     TooLong(usize),
 }
 
-/// Returns where changes that are made one after the other from a tree stop; `None` if all can be made.
+/// Returns the first of some changes at which a record stops, applied one after the other; `None` if all can be made.
 pub(crate) fn first_stop(tree: &Tree, changes: &[Primitive]) -> Result<Option<Stop>, AllocError>
     ensures { IfOk result (λ found. found ≡ first_stop 1 changes.now tree.now) }
 {
@@ -47,7 +47,7 @@ pub(crate) fn first_stop(tree: &Tree, changes: &[Primitive]) -> Result<Option<St
     Ok(None)
 }
 
-// Makes a change to a tree, or returns why it can't be made.
+// Applies a change to a tree, or returns why a record stops at it.
 fn make(change: &Primitive, tree: &mut Tree) -> Result<Option<Hindrance>, AllocError>
     ensures reports { IfOk result (λ found. found ≡ hindrance change.now tree.old) }
     ensures makes { IfOk result (λ found. found ≡ None → applied change.now tree.old ≡ Some tree.new) }
@@ -64,7 +64,7 @@ fn make(change: &Primitive, tree: &mut Tree) -> Result<Option<Hindrance>, AllocE
     Ok(long_file(path, tree))
 }
 
-// Returns the number of lines of the file of a path, if it is more than a record allows.
+// Returns the number of lines of the file of a path if it is above the limit of a record.
 fn long_file(path: &Path, tree: &Tree) -> Option<Hindrance>
     ensures { result ≡ long_file (get tree.now path.now) }
 {

@@ -1,10 +1,10 @@
-//! Tables: the kind of an entry, and the number of its lines.
+//! The kinds of entries of a table, and the number of their lines.
 ghost use Rattle.std.specs.Prelude.{◌≤◌, ◌<◌, length};
 
 use crate::words::{meaning_of, split_word};
 use bstr::ByteSlice;
 
-/// What an entry asks of a book, of a head or of a run.
+/// What an entry does with a book, a head or a run.
 #[derive(Clone, Copy)]
 pub(crate) enum Play {
     Adopted,
@@ -35,7 +35,7 @@ const PLAYS: &[(&str, Play)] = &[
     ("seen", Play::Seen),
 ];
 
-/// Parses the first word of a line that is not of a table of values: a command, a run, and so on.
+/// Parses the first word of a line that does not belong to a table of values: that of a command, a run, and so on.
 pub(crate) fn play_of(line: &[u8]) -> Option<Play> {
     if matches!(line.first(), Some(b'0'..=b'9')) {
         return Some(Play::Command);
@@ -44,8 +44,8 @@ pub(crate) fn play_of(line: &[u8]) -> Option<Play> {
     meaning_of(PLAYS, word)
 }
 
-/// Counts the lines of the first entry of a table. A run and a conversation end before an empty line, a
-/// command with a body at its end; any other entry is one line.
+/// Counts the lines of the first entry of a table. A run or a conversation ends before an empty line, and a command
+/// with a body at the end of that; any other entry is one line.
 pub(crate) fn entry_len(lines: &[&[u8]]) -> usize
     requires { 0 < length lines.now }
     ensures some { 0 < result }

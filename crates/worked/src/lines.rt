@@ -1,4 +1,4 @@
-//! Tables: each entry with its result below it.
+//! Printing tables: each entry, and its result below it.
 use crate::entries::{entry_len, play_of};
 use crate::plays::executions::Executions;
 use crate::plays::{Entry, Stage};
@@ -84,8 +84,8 @@ fn lines_of(alloc: Global, input: &[u8]) -> Result<Vec<&[u8]>, AllocError> {
     Ok(lines)
 }
 
-/// Prints the lines of an entry, followed by its result. An entry that ran out of memory is tried again, without the
-/// calls of a book or of a head that were executed already.
+/// Prints the lines of an entry and then its result. If memory runs out, the entry is tried again, except for calls of
+/// a book or a head that were executed already.
 fn entry_text<R: Threads + Wait + Sync>(
     rt: &R,
     table: &mut Table,
@@ -124,7 +124,7 @@ fn try_entry<R: Threads + Wait + Sync>(
     }
 }
 
-/// Stores what a line defines, or appends the result of the call that it is.
+/// Stores the definition of a line, or appends the result of its call.
 fn append_line(table: &mut Table, line: &[u8], text: &mut Vec<u8>) -> Result<(), AllocError> {
     match split_call(line) {
         Some((name, arguments)) => append_outcome(calls::answer(table, name, arguments), text),

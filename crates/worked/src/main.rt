@@ -21,13 +21,13 @@
 //! | `run locked counts` and the like | how its calls were answered, whatever the order of its clients |
 //! | `ends WAY: READS BYTES WRITES BYTES TIMES` | the script below, with a reader and a writer that fail |
 //!
-//! The notation is that of `camp_notation`. What runs out of memory is tried again. The exit status is 0 if
-//! no line ran out of memory, 3 if one did or the allocation after the last line was refused, 4 if the input
-//! was not read or a line not printed, and 5 if more than one line ran out of memory.
+//! The notation is that of `camp_notation`. An entry for which memory runs out is tried again. The exit status is 0 if
+//! memory ran out for no line, 3 if it did for one or the allocation after the last line was refused, 4 if the input
+//! was not read or a line was not printed, and 5 if memory ran out for several lines.
 //!
-//! `worked N M` makes M - N extra allocations before the table, so the run's M-th allocation is the table's
-//! N-th: built so that its M-th allocation is refused, N chooses which one of the table is. `worked M` prints
-//! after the lines how many more allocations are made before one is refused, M at most.
+//! `worked N M` makes M - N extra allocations before the table, so that the table's N-th allocation is the run's M-th:
+//! in a build whose M-th allocation is refused, N chooses which one of the table fails. `worked M` prints after the
+//! lines how many more allocations succeed, up to M.
 #![tactic(auto)]
 
 mod entries;

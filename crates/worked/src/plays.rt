@@ -1,4 +1,4 @@
-//! Books and heads: entries that are no calls of a table of values, but ask a book, a head or a run.
+//! Entries that ask a book or a head, or run a script.
 
 pub(crate) mod commands;
 pub(crate) mod executions;
@@ -61,7 +61,7 @@ impl Stage {
         append_fault(done, text)
     }
 
-    /// Executes a command as often as it says, and appends the last answer.
+    /// Executes a command as often as its entry says, and appends the last answer.
     fn append_executed<R: Wait>(
         &mut self,
         rt: &R,
@@ -77,7 +77,7 @@ impl Stage {
         executions.append_last(text)
     }
 
-    /// Executes a call; again if it runs out of memory.
+    /// Executes a call; if memory runs out, executes it again.
     fn ask<R: Wait>(&mut self, rt: &R, seat: u32, call: &Call) -> Result<Answer, PlayFault> {
         let answer = match self {
             Stage::Book(book) => Ok(book.ask(seat, call)),
@@ -89,7 +89,7 @@ impl Stage {
         }
     }
 
-    /// Executes a line that begins neither a command nor a run.
+    /// Executes a line that is neither a command nor a run.
     fn append_line(
         &mut self,
         play: Play,
@@ -110,7 +110,7 @@ impl Stage {
         Ok(())
     }
 
-    /// Makes a head with these sizes, with 0 for missing ones.
+    /// Makes a head with these sizes; a missing one is 0.
     fn open(&mut self, words: &[u8], text: &mut Vec<u8>) -> Result<(), PlayFault> {
         let mut sizes = [0; 4];
         read_numbers(words, &mut sizes)?;
@@ -124,7 +124,7 @@ impl Stage {
         }
     }
 
-    /// Appends what a book has accepted, or what seats report.
+    /// Appends the accepted calls of a book, or what seats report.
     fn append_report(
         &mut self,
         play: Play,
@@ -143,7 +143,7 @@ impl Stage {
     }
 }
 
-/// Appends the text of the refusal of a pull of branches that do not merge: no script is known that gets it.
+/// Appends the text of the refusal of a pull that does not merge; no known script leads to that refusal.
 fn append_no_merge(words: &[u8], text: &mut Vec<u8>) -> Result<(), PlayFault> {
     let Some((left, right)) = names_of(words) else {
         return Err(NO_COMMAND);
@@ -154,7 +154,7 @@ fn append_no_merge(words: &[u8], text: &mut Vec<u8>) -> Result<(), PlayFault> {
     append_written(ended, &written, text)
 }
 
-/// Appends the content of a vector after a call that writes. A vector rejects bytes only if memory runs out.
+/// Appends the contents of a vector after a call that writes to it, which fails only if memory runs out.
 fn append_written(
     ended: Result<(), WriteFault>,
     written: &[u8],
@@ -166,7 +166,7 @@ fn append_written(
     }
 }
 
-/// Appends bytes that were made, unless memory ran out.
+/// Appends bytes, unless memory ran out for them.
 pub(crate) fn append_bytes(
     made: Result<Vec<u8>, AllocError>,
     text: &mut Vec<u8>,
@@ -177,7 +177,7 @@ pub(crate) fn append_bytes(
     }
 }
 
-/// Appends words that were made, unless memory ran out.
+/// Appends words, unless memory ran out for them.
 pub(crate) fn append_words(
     made: Result<String, AllocError>,
     text: &mut Vec<u8>,

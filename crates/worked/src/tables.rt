@@ -1,11 +1,11 @@
-//! Tables: the definitions of a table so far.
+//! The definitions of a table.
 use bstr::ByteSlice;
 use camp_notation::{NotationError, read_list, read_named, read_tree};
 use camp_prim::Named;
 use std::alloc::{AllocError, AllocFailed, Global};
 
-/// The definitions of a table so far: the primitives that have a line of their own, their inverses, and the
-/// names of other values; and whether results are shown.
+/// The definitions of a table so far: primitives, which have a line of their own, their inverses, and the names of
+/// other values; and whether results are shown.
 #[derive(Drop)]
 pub(crate) struct Table {
     alloc: Global,
@@ -58,7 +58,7 @@ impl Table {
         self.is_quiet
     }
 
-    /// Returns what a word represents: itself, if it has no definition.
+    /// Returns what a word stands for: its definition, or itself if it has none.
     pub(crate) fn meaning<'a>(&'a self, word: &'a [u8]) -> &'a [u8] {
         for binding in &self.bound {
             if binding.name.as_slice() == word {
@@ -68,7 +68,7 @@ impl Table {
         word
     }
 
-    /// Stores the definition of a line that is no call.
+    /// Stores the definition of a line.
     pub(crate) fn learn(&mut self, line: &[u8]) -> Result<(), NotationError> {
         if line.is_empty() || line.starts_with(b"#") {
             return Ok(());
@@ -94,14 +94,14 @@ impl Table {
         self.is_quiet = false;
     }
 
-    // A later line of the same name replaces an earlier one.
+    // Stores the definition of a name, instead of an earlier one.
     fn bind(&mut self, name: &[u8], text: &[u8]) -> Result<(), NotationError> {
         self.expect_value(text)?;
         let binding = binding_of(self.alloc, name, text)?;
         Ok(self.bound.insert(0, binding)?)
     }
 
-    /// A text that represents a value has to be readable as one.
+    /// Returns a fault unless a text can be parsed as a tree or a list.
     fn expect_value(&self, text: &[u8]) -> Result<(), NotationError> {
         if text.starts_with(b"{") {
             let _tree = read_tree(self.alloc, text)?;
@@ -118,7 +118,7 @@ impl Table {
         Ok(self.put(inverse)?)
     }
 
-    // A later primitive of the same label replaces an earlier one.
+    // Stores a primitive, instead of an earlier one with the same label.
     fn put(&mut self, p: Named) -> Result<(), AllocFailed<Named>> {
         for known in self.known.iter_mut() {
             if known.label() == p.label() {

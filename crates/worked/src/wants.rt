@@ -1,11 +1,11 @@
-//! Refused allocations: how many entries ran out of memory, and which allocation is refused.
+//! Refused allocations: how many entries memory ran out for, and which allocation is refused.
 use crate::words::number_of;
 use std::alloc::{AllocError, Global};
 use std::env::{Env, FillError};
 use std::io;
 use std::io::{ErrorKind, Write};
 
-/// How many lines have run out of memory. Only one allocation is refused, so only one line may.
+/// The number of lines for which memory ran out. Only one allocation is refused, so it should be at most 1.
 #[derive(Clone, Copy)]
 pub(crate) struct Wants {
     count: u32,
@@ -16,12 +16,12 @@ impl Wants {
         Wants { count: 0 }
     }
 
-    /// Counts a line that has run out of memory.
+    /// Counts a line for which memory ran out.
     pub(crate) fn note(&mut self) {
         self.count = self.count.saturating_add(1);
     }
 
-    /// Returns the exit status for them.
+    /// Returns the exit status for this number of lines.
     pub(crate) fn status(self) -> u8 {
         match self.count {
             0 => 0,
@@ -31,9 +31,8 @@ impl Wants {
     }
 }
 
-/// Makes and frees as many allocations as are needed for the refused one, whose number is the second
-/// argument, to be the one of the table with the number of the first argument. Without a second argument it
-/// makes none.
+/// Makes and frees allocations so that the refused one, whose number in the run is the second argument, is the one with
+/// the first argument as its number in the table. Makes none without a second argument.
 pub(crate) fn allocate_before(rt: &impl Env, alloc: Global) -> io::Result<()> {
     match (number_at(rt, 1)?, number_at(rt, 2)?) {
         (Some(number), Some(refused)) => {

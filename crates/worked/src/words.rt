@@ -1,4 +1,4 @@
-//! Tables: the words of a line.
+//! The words of a line.
 use bstr::ByteSlice;
 use std::alloc::{AllocError, Global};
 use std::fmt::Display;
@@ -20,7 +20,7 @@ pub(crate) fn number_of(word: &[u8]) -> Option<u32> {
     }
 }
 
-/// Returns what a word represents, if it is one of these.
+/// Returns what a word stands for, if it is one of these.
 pub(crate) fn meaning_of<T: Copy>(words: &[(&str, T)], word: &[u8]) -> Option<T> {
     for (known, meaning) in words {
         if known.as_bytes() == word {

@@ -23,7 +23,7 @@ struct Calls {
     served: u32,
     size: usize,
     times: u32,
-    /// How often the next call is still interrupted.
+    /// How often the next call will still be interrupted.
     interruptions: u32,
     error: ErrorKind,
 }
@@ -82,7 +82,7 @@ impl<'a> Read for Reader<'a> {
 pub struct Writer {
     taken: Vec<u8>,
     holds: bool,
-    /// How many of the bytes that it took have arrived.
+    /// How many of the bytes that were written have arrived.
     flushed: usize,
     calls: Calls,
     wants_memory: bool,
@@ -123,8 +123,8 @@ impl<'a> Reader<'a> {
 }
 
 impl Writer {
-    /// Makes a writer that has taken nothing; its last call fails with `BrokenPipe`. If it `holds`, bytes arrive when
-    /// it is flushed.
+    /// Makes a writer without bytes; its last call fails with `BrokenPipe`. If it `holds`, bytes arrive only when it is
+    /// flushed.
     pub fn new(alloc: Global, sizes: Sizes, holds: bool) -> Writer {
         Writer {
             taken: Vec::new(alloc),
@@ -140,7 +140,7 @@ impl Writer {
         }
     }
 
-    /// Returns whether it ran out of memory for what it took.
+    /// Returns whether memory ran out for the bytes that were written.
     pub fn wants_memory(&self) -> bool {
         self.wants_memory
     }

@@ -21,7 +21,8 @@ pub(crate) struct Conversation {
     commands: Vec<u8>,
 }
 
-/// Parses a line such as `ends talk: 9 1 9 1 0`; None if the line does not begin with `ends `. Any other form is invalid data.
+/// Parses a line such as `ends talk: 9 1 9 1 0`; `None` if the line does not begin with `ends `, and an error if its
+/// form is another one.
 pub(crate) fn conversation_of(alloc: Global, line: &[u8]) -> io::Result<Option<Conversation>> {
     let Some(words) = line.strip_prefix(b"ends ") else {
         return Ok(None);
@@ -58,7 +59,7 @@ fn parse(words: &[u8]) -> Option<(Framing, Sizes)> {
     Some((framing, sizes))
 }
 
-/// Parses the first word as a number, and returns it with the rest.
+/// Parses the first word as a number. Returns it and the rest.
 fn number(words: &[u8]) -> Option<(u32, &[u8])> {
     let (word, rest) = words.split_once_str(b" ").unwrap_or((words, b""));
     let digits = str::from_utf8(word).ok()?;
@@ -112,8 +113,8 @@ fn print_fault<W: Write>(fault: TalkFault, count: usize, out: &mut W) -> io::Res
     }
 }
 
-/// Returns the fault of the conversation that a fault of its frames contains. The frames of a table are whole, so it
-/// always contains one.
+/// Returns the fault of the conversation within a fault of its frames. The frames of a table are complete, so there
+/// always is one.
 fn without_frames(ended: Result<(), FrameFault>) -> Result<(), TalkFault> {
     match ended {
         Ok(()) => Ok(()),

@@ -7,8 +7,8 @@
 //! | `ends talk: READS BYTES WRITES BYTES TIMES` | the commands below, up to an empty line, in a conversation |
 //! | `ends frames: READS BYTES WRITES BYTES TIMES` | the requests below, in frames |
 //!
-//! The exit status is 4 if the input was not read, a line was not printed or memory ran out, and if an `ends` has another
-//! form.
+//! The exit status is 4 if the input was not read, a line was not printed or memory ran out, or if an `ends` has
+//! another form.
 #![tactic(auto)]
 
 mod conversations;
@@ -47,7 +47,8 @@ fn print_table<W: Write>(alloc: Global, input: &[u8], out: &mut W) -> io::Result
     }
 }
 
-/// Takes a line: prints the result of the conversation that it ends, and returns the conversation that it belongs to.
+/// Processes a line: prints the result of the conversation that it ends, and returns the conversation that it belongs
+/// to.
 fn next<W: Write>(
     alloc: Global,
     pending: Option<Conversation>,

@@ -1,4 +1,4 @@
--- The representation of a name: its buffer, and the number of its first bytes.
+-- The representation of a name: its buffer, and its first eight bytes as a number.
 use Rattle.std.specs.Prelude.{◌≡◌, ℕ, zero, suc, ◌+◌, ◌-◌, ◌*◌, IsTrue, List, [], ◌∷◌, ◌++◌, length, take, replicate}
 use Rattle.camp_base.specs.Bytes.{is_name}
 use Rattle.camp_base.specs.Limits.{longest_name}
@@ -8,13 +8,13 @@ use Rattle.camp_base.specs.declared.names.Name.TheInside.{Inside}
 abbrev pub padded : List ℕ → Inside
 padded bytes = record { buffer = bytes ++ replicate (longest_name - length bytes) 0; len = length bytes }
 
--- the bytes are a name, and the rest of the buffer is zeros
+-- the invariant of a name: the bytes are a name, and the rest of the buffer is zeros
 pub record IsPadded (name : Inside) : Type 0 where
   pub form : IsTrue (is_name (take name.len name.buffer))
   pub padding : padded (take name.len name.buffer) ≡ name
 
--- `sum` continued by `n` digits of base 256: the next bytes, most significant first, padded with zeros;
--- `spelt 8 0 name` is the big-endian number of the first eight bytes
+-- `sum` continued by `n` digits of base 256, most significant first: the next bytes, padded with zeros. `spelt 8 0
+-- name` is the first eight bytes as a big-endian number
 abbrev pub spelt : ℕ → ℕ → List ℕ → ℕ
 spelt zero sum bytes = sum
 spelt (suc n) sum [] = spelt n (sum * 256) []

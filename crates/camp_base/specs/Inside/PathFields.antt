@@ -1,4 +1,4 @@
--- The representation of a path: its bytes, and the number of the last eight.
+-- The representation of a path: its bytes, and its last eight bytes as a number.
 use Rattle.std.specs.Prelude.{◌≡◌, ℕ, ◌-◌, IsTrue, List, length, drop}
 use Rattle.camp_base.specs.Bytes.{is_path}
 use Rattle.camp_base.specs.Inside.NameFields.{spelt}
@@ -8,7 +8,7 @@ use Rattle.camp_base.specs.declared.paths.Path.TheInside.{Inside}
 abbrev pub last_eight : List ℕ → List ℕ
 last_eight bytes = drop (length bytes - 8) bytes
 
--- the bytes are a path, and the number is that of the last eight
+-- the invariant of a path: the bytes are a path, and the number is that of its last eight bytes
 pub record IsKept (path : Inside) : Type 0 where
   pub form : IsTrue (is_path path.bytes.items)
   pub tail : path.tail ≡ spelt 8 0 (last_eight path.bytes.items)

@@ -1,4 +1,4 @@
--- The conflicts of catches as they are collected: in no order, and a pair possibly more than once.
+-- The conflicts of catches, as they are collected: unordered, possibly with repetitions.
 use Rattle.std.specs.Prelude.{ℕ, List, [], ◌∷◌, map}
 use Rattle.std.specs.List.{flat_map}
 use Rattle.std.specs.Ordering.{nat_cmp}
@@ -11,13 +11,13 @@ use Rattle.camp_catch.specs.declared.catches.Catch.{Catch}
 use Rattle.camp_catch.specs.declared.catches.Catch.TheVariants.{Plain}
 use Rattle.camp_branch.specs.Branches.{name_of}
 
--- two names as a pair, the lesser first; none if they are equal
+-- two names as a pair, the lesser first; none if the names are equal
 abbrev pub ordered_by : Ordering → List ℕ → List ℕ → List (List ℕ × List ℕ)
 ordered_by Less first second = (first, second) ∷ []
 ordered_by Equal first second = []
 ordered_by Greater first second = (second, first) ∷ []
 
--- the pair of two names that are not the same
+-- two different names as a pair
 abbrev pub pair_of : List ℕ → List ℕ → List (List ℕ × List ℕ)
 pair_of first second = ordered_by (slice_cmp nat_cmp first second) first second
 
@@ -25,7 +25,7 @@ pair_of first second = ordered_by (slice_cmp nat_cmp first second) first second
 abbrev pub names_within : ContextedPatches → List (List ℕ)
 names_within xs = map (λ key. key.name) (keys xs)
 
--- the names of the patches in the set of a catch
+-- the names of the patches in the set of a conflictor; none for a plain catch
 abbrev pub names_against : Catch → List (List ℕ)
 names_against (Plain a) = []
 names_against (Catch.Conflictor k) = names_within k.conflicts

@@ -19,7 +19,7 @@ abbrev pub DivergesIn : List (List ℕ) → List Catch → Blocked → Type 0
 DivergesIn names list blocked =
     (stuck : Key) × (on : Key) × ArrangeIsBlocked names list stuck on × (blocked ≡ Diverged stuck.name)
 
--- the common patches are not the same in the order of those of the other branch
+-- the common patches of one branch, put in the order of the other's, are not the same catches
 abbrev pub DivergesFrom : List Catch → List Catch → Blocked → Type 0
 DivergesFrom from_common to_common blocked =
     ((stuck : Key) × AlignIsBlocked (keys_of to_common) from_common stuck × (blocked ≡ Diverged stuck.name))

@@ -10,19 +10,19 @@ use Rattle.camp_catch.specs.Merging.{MergeCatch}
 use Rattle.camp_catch.specs.declared.catches.Catch.{Catch}
 use Rattle.camp_catch.specs.declared.catches.Catch.TheVariants.{Plain}
 
--- j and then k commute in place: k' is written where k was, and j' where j was
+-- j and then k commute in place: k' is written over j, and j' over k
 abbrev pub CatchesCommuteInPlace : Catch × Catch → Catch × Catch → Type 0
 CatchesCommuteInPlace old new = CommuteCatch old.0 old.1 new.1 new.0
 
--- j and k of the same state merge in place: k' is written where k was, and j' where j was
+-- j and k, which begin in the same state, merge in place: each result is written over the catch that it comes from
 abbrev pub MergesInPlace : Catch × Catch → Catch × Catch → Type 0
 MergesInPlace old new = MergeCatch old.0 old.1 new.1 new.0
 
--- j and k of the same state merge, and this is what k becomes after j
+-- j and k, which begin in the same state, merge; k becomes this after j
 abbrev pub MergesInto : Catch → Catch → Catch → Type 0
 MergesInto j k k' = (j' : Catch) × MergeCatch j k k' j'
 
--- the catch with more conflicts; a plain one is unchanged
+-- the catch with further conflicts; a plain one is unchanged
 abbrev pub with_gained : List ContextedPatch → Catch → Catch
 with_gained gained (Plain a) = Plain a
 with_gained gained (Catch.Conflictor k) = Catch.Conflictor (with_conflicts (fold with_member k.conflicts gained) k)

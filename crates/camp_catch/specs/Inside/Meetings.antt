@@ -1,4 +1,4 @@
--- How two catches merge or commute that may have gained conflicts since their sets were made.
+-- How two catches merge or commute that may have gained conflicts which are not in their sets yet.
 use Rattle.std.specs.Prelude.{List, [], ◌∷◌, ◌++◌}
 use Rattle.camp_ctx.specs.Contexts.{ContextedPatch}
 use Rattle.camp_catch.specs.Commuting.{CommuteCatch}
@@ -9,26 +9,27 @@ use Rattle.camp_catch.specs.declared.fast.gaining.Meeting.{Meeting}
 use Rattle.camp_catch.specs.declared.fast.gaining.Meeting.TheVariants.{Aside, Conflict, Unknown}
 use Rattle.camp_catch.specs.declared.fast.passing.Passing.{Passing}
 
--- two catches merge, whatever conflicts they have gained before; the second then gains `these`, and the first `those`
+-- two catches merge, whatever conflicts they have gained before; the second gains the conflicts `these`, and the first
+-- `those`
 abbrev pub EachGains : Catch → Catch → List ContextedPatch → List ContextedPatch → Type 0
 EachGains j k these those =
     (before beside : List ContextedPatch)
     → MergeCatch (with_gained before j) (with_gained beside k) (with_gained (beside ++ these) k) (with_gained (before ++ those) j)
 
--- the result of the quick check is true of a merge: neither gains a conflict, or each gains the given one; `Unknown`
--- says nothing
+-- a quick check of a merge is right: neither catch gains a conflict, or each gains the given one; `Unknown` says
+-- nothing
 abbrev pub MeetAs : Catch → Catch → Meeting → Type 0
 MeetAs j k Aside = EachGains j k [] []
 MeetAs j k (Conflict l i) = EachGains j k (l ∷ []) (i ∷ [])
 MeetAs j k Unknown = Unit {0}
 
--- k commutes with the j before it, whatever conflicts j has gained before: k becomes k', and j gains these conflicts
+-- k commutes with the j before it, whatever conflicts j has gained before; k becomes k', and j gains these conflicts
 abbrev pub PassesGaining : Catch → Catch → Catch → List ContextedPatch → Type 0
 PassesGaining j k k' these =
     (before : List ContextedPatch) → CommuteCatch (with_gained before j) k k' (with_gained (before ++ these) j)
 
--- the result of the quick check is true of a commute: both catches stay unchanged, or k becomes the given catch and j
--- gains the given conflict; `Unknown` says nothing
+-- a quick check of a commute is right: both catches stay unchanged, or k becomes the given catch and j gains the given
+-- conflict; `Unknown` says nothing
 abbrev pub PassAs : Catch → Catch → Passing → Type 0
 PassAs j k Passing.Aside = PassesGaining j k k []
 PassAs j k (Passing.Leaves k' l) = PassesGaining j k k' (l ∷ [])

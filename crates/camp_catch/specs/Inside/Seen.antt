@@ -1,4 +1,4 @@
--- Conflictors that functions make from others.
+-- Conflictors made from others by private functions.
 use Rattle.std.specs.Prelude.{◌≡◌, List, ◌∷◌, ◌++◌}
 use Rattle.std.specs.FinMap.{remove}
 use Rattle.camp_prim.specs.Effect.{inverse_of}
@@ -17,13 +17,13 @@ pub record InvertsPatch (a : Named) (k : Conflictor) (l : ContextedPatch) (made 
   pub effect : Norm (inverse_of a ∷ k.effect) s'
   pub is : made ≡ with_effect s' (joined_by l k)
 
--- (s, X' and l, i'), where t added to X and i gives X' and i'
+-- from (r, X, i) and l comes (s, X' and l, i'), where t added to X and to i gives X' and i'
 pub record JoinedAfter (t s : List Named) (k : Conflictor) (l : ContextedPatch) (made : Conflictor) : Type 0 where
   pub moved : Conflictor
   pub becomes : Becomes (λ effect. effect ≡ s) (AddsAll t) (AddsAll t) k moved
   pub is : made ≡ joined_by l moved
 
--- (s, Y and i', l), where t added to i gives i'
+-- from (r, Y, l) and i comes (s, Y and i', l), where t added to i gives i'
 abbrev pub JoinedBySeen : List Named → ContextedPatch → Conflictor → Conflictor → Type 0
 JoinedBySeen t i k made = (i' : ContextedPatch) × AddsAll t i i' × (made ≡ joined_by i' k)
 

@@ -17,13 +17,13 @@ pub record EffectsMerge (r s s2 r2 : List Named) : Type 0 where
   pub effect : Norm merged s2
   pub own_effect : Norm left r2
 
--- `found` says whether a patch conflicts with the identity of a conflictor, as seen before its effect
+-- `found` is true exactly if a patch conflicts with the identity of a conflictor, as seen before its effect
 pub record DecidesPlainConflict (a : Named) (k : Conflictor) (found : Bool) : Type 0 where
   pub seen : ContextedPatch
   pub sees : AddsAll k.effect k.identity seen
   pub tells : IsTrue found ↔ Conflict (bare a) seen
 
--- `found` says whether two identities conflict, as seen before the effects
+-- `found` is true exactly if two identities conflict, as seen before the effects
 pub record DecidesConflict (j k : Conflictor) (found : Bool) : Type 0 where
   pub x : ContextedPatch
   pub y : ContextedPatch
@@ -31,7 +31,7 @@ pub record DecidesConflict (j k : Conflictor) (found : Bool) : Type 0 where
   pub sees : AddsAll k.effect k.identity y
   pub tells : IsTrue found ↔ Conflict x y
 
--- each of two conflictors gains the identity of the other as a conflict, if the two conflict; else both stay
+-- if the identities of two conflictors conflict, each gains the other's as a conflict; else both stay unchanged
 pub record JoinEachOther (in_conflict : Bool) (moved own : Conflictor) (k' j' : Catch) : Type 0 where
   pub joined : Conflictor
   pub own_joined : Conflictor

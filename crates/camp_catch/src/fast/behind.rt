@@ -19,8 +19,8 @@ use camp_ctx::Contexted;
 use camp_share::{Share, Shared};
 use std::alloc::{AllocError, Global};
 
-/// Merges one catch with a list of the same state; the catch becomes what it is after the list. What the list
-/// becomes is not made.
+/// Merges one catch with a list that begins in the same state; the catch becomes what it is after the list. What the
+/// list becomes is not computed.
 pub(crate) fn merge_behind_all(
     alloc: Global,
     q: &[Gaining],
@@ -40,7 +40,7 @@ pub(crate) fn merge_behind_all(
     Ok(settled)
 }
 
-/// Merges `k` with `j` of the same state; `k` becomes what it is after `j`.
+/// Merges `k` with a `j` that begins in the same state; `k` becomes what it is after `j`.
 pub(crate) fn merge_behind(
     alloc: Global,
     j: &Catch,
@@ -57,7 +57,7 @@ pub(crate) fn merge_behind(
     }
 }
 
-/// Returns what the `k` of the same state becomes after `j`; what `j` becomes is not made.
+/// Returns what `k` becomes after a `j` that begins in the same state. What `j` becomes is not computed.
 fn behind(alloc: Global, j: &Catch, k: &Catch) -> Result<Option<Catch>, AllocError>
     ensures exact { IfOk result (Finds (MergesInto j.now k.now)) }
 {
@@ -70,8 +70,8 @@ fn behind(alloc: Global, j: &Catch, k: &Catch) -> Result<Option<Catch>, AllocErr
     }
 }
 
-/// Makes the first result of `(r, X, i) | (s, Y, l) -> (s2, Y', l')`, where `r2^` added to `Y` and `l` gives
-/// `Y'` and `l'`. Of the other result only the identity is made.
+/// Makes the first result of `(r, X, i) | (s, Y, l) -> (s2, Y', l')`, where `r2^` added to `Y` and `l` gives `Y'` and
+/// `l'`. Of the second result only the identity is computed, since it joins `Y'` if the two conflict.
 fn conflictor_behind(
     alloc: Global,
     j: &Conflictor,

@@ -1,4 +1,4 @@
-//! Catches that merge with or commute past others one by one, and gain conflicts on the way.
+//! Catches that merge with or commute past others one by one, and the conflicts that they gain on the way.
 ghost use Rattle.std.specs.Prelude.{◌≡◌, IfOk};
 ghost use Rattle.camp_base.specs.Answers.{Changes};
 ghost use Rattle.camp_catch.specs.Catches.{catch_key};
@@ -17,8 +17,7 @@ use camp_share::{Share, Shared};
 use std::alloc::{AllocError, Global};
 use std::marker::Model;
 
-/// A catch, and the conflicts that it has gained since its set was made. The set is rebuilt once for all of
-/// them.
+/// A catch, and the conflicts that it has gained since its set was made. They are added to the set all at once.
 #[derive(Drop)]
 pub(crate) struct Gaining {
     catch: Shared<Catch>,
@@ -38,13 +37,13 @@ impl Model for Gaining {
     ghost view = { λ gaining. with_gained gaining.gained.items gaining.catch };
 }
 
-/// The result of a quick check of how two catches of the same state merge.
+/// The result of a quick check of how two catches merge that begin in the same state.
 #[derive(Drop)]
 pub(crate) enum Meeting {
     /// Both stay unchanged.
     Aside,
-    /// Each gains a conflict: the second catch the first value, and the first catch the second value. Nothing
-    /// else changes.
+    /// Each gains one conflict and does not change otherwise: the second catch gains the first value, and the first
+    /// catch the second value.
     Conflict(Contexted, Contexted),
     /// The quick check does not decide.
     Unknown,
@@ -91,7 +90,7 @@ impl Gaining {
         Ok(self.catch)
     }
 
-    /// Merges with the `k` of the same state, in place. False if they do not merge.
+    /// Merges with a `k` that begins in the same state, in place. False if they do not merge.
     pub(crate) fn meet(&mut self, k: &mut Gaining) -> Result<bool, AllocError>
         ensures exact { IfOk result (λ done. Changes MergesInPlace (self.old, k.old) done (self.new, k.new)) }
     {
@@ -128,8 +127,8 @@ impl Gaining {
         }
     }
 
-    /// Merges with `j` of the same state, and becomes what it is after `j`. What `j` becomes is not made,
-    /// since nobody reads it.
+    /// Merges with a `j` that begins in the same state, and becomes what it is after `j`. What `j` becomes is not
+    /// computed, since nobody reads it.
     pub(crate) fn go_behind(&mut self, j: &Gaining) -> Result<bool, AllocError>
         ensures exact { IfOk result (λ done. Changes (MergesInto j.now) self.old done self.new) }
     {
@@ -169,7 +168,7 @@ pub(crate) fn all_settled(
     Ok(settled)
 }
 
-/// Merges two catches of the same state; makes their sets first.
+/// Merges two catches that begin in the same state; adds the gained conflicts to their sets first.
 fn merge_settled(j: &mut Gaining, k: &mut Gaining) -> Result<bool, AllocError>
     ensures exact { IfOk result (λ done. Changes MergesInPlace (j.old, k.old) done (j.new, k.new)) }
 {
@@ -184,7 +183,7 @@ fn merge_settled(j: &mut Gaining, k: &mut Gaining) -> Result<bool, AllocError>
     Ok(true)
 }
 
-/// Commutes `j` and the `k` after it; makes the set of `j` first.
+/// Commutes `j` and the `k` after it; adds the gained conflicts to the set of `j` first.
 fn pass_settled(j: &mut Gaining, k: &mut Shared<Catch>) -> Result<bool, AllocError>
     ensures exact { IfOk result (λ done. Changes CatchesCommuteInPlace (j.old, k.old) done (j.new, k.new)) }
 {
@@ -197,7 +196,8 @@ fn pass_settled(j: &mut Gaining, k: &mut Shared<Catch>) -> Result<bool, AllocErr
     Ok(true)
 }
 
-/// Merges `k` with the `j` of the same state, to what it is after `j`; makes their sets first.
+/// Merges `k` with a `j` that begins in the same state; `k` becomes what it is after `j`. Adds the gained conflicts to
+/// their sets first.
 fn settle_behind(j: &Gaining, k: &mut Gaining) -> Result<bool, AllocError>
     ensures exact { IfOk result (λ done. Changes (MergesInto j.now) k.old done k.new) }
 {
@@ -211,7 +211,7 @@ fn settle_behind(j: &Gaining, k: &mut Gaining) -> Result<bool, AllocError>
     Ok(true)
 }
 
-/// Checks how two catches of the same state merge, whatever they have gained.
+/// Checks how two catches merge that begin in the same state, whatever conflicts they have gained.
 fn meeting_of(j: &Catch, k: &Catch) -> Result<Meeting, AllocError>
     ensures { IfOk result (MeetAs j.now k.now) }
 {
@@ -222,8 +222,8 @@ fn meeting_of(j: &Catch, k: &Catch) -> Result<Meeting, AllocError>
     }
 }
 
-/// Checks how two conflictors of the same state merge. If neither has an effect, each gains the identity of
-/// the other where they conflict, and both stay unchanged where they do not.
+/// Checks how two conflictors merge that begin in the same state. If neither has an effect, both stay unchanged, except
+/// that each gains the identity of the other if they conflict.
 fn meeting_of_two(j: &Conflictor, k: &Conflictor) -> Result<Meeting, AllocError>
     ensures { IfOk result (MeetAs (AnyCatch.Conflictor j.now) (AnyCatch.Conflictor k.now)) }
 {
@@ -242,7 +242,7 @@ fn meeting_of_two(j: &Conflictor, k: &Conflictor) -> Result<Meeting, AllocError>
     Ok(Meeting::Conflict(first, second))
 }
 
-/// Returns a catch with more conflicts; a plain one is unchanged.
+/// Returns a catch with further conflicts; a plain one is unchanged.
 fn with_gained(gained: &[Contexted], catch: &Catch) -> Result<Catch, AllocError>
     ensures { IfOk result (λ made. made ≡ with_gained gained.now catch.now) }
 {

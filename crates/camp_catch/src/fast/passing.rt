@@ -1,4 +1,4 @@
-//! Conflictors without an effect that commute past one another.
+//! A quick check: conflictors without an effect that commute.
 ghost use Rattle.std.specs.Prelude.{◌≡◌, ◌↔◌, [], IfOk, IsTrue, Some};
 ghost use Rattle.std.specs.FinMap.{get};
 ghost use Rattle.camp_ctx.specs.Contexts.{context_key, ContextedPatch};
@@ -15,7 +15,7 @@ use std::alloc::AllocError;
 pub(crate) enum Passing {
     /// Both stay unchanged.
     Aside,
-    /// The catch becomes the first value, and the one before it gains the second as a conflict; nothing else
+    /// The second catch becomes the first value, and the first catch gains the second value as a conflict; nothing else
     /// changes.
     Leaves(Catch, Contexted),
     /// The quick check does not decide.
@@ -32,8 +32,8 @@ pub(crate) fn passing_of(j: &Catch, k: &Catch) -> Result<Passing, AllocError>
     }
 }
 
-/// Checks how one conflictor commutes past another if neither has an effect: a conflict with it is removed
-/// from its set, else both stay unchanged.
+/// Checks how two conflictors without an effect commute: the first leaves the set of the second if it is in it; else
+/// both stay unchanged.
 fn passing_of_two(j: &Conflictor, k: &Conflictor) -> Result<Passing, AllocError>
     ensures { IfOk result (PassAs (AnyCatch.Conflictor j.now) (AnyCatch.Conflictor k.now)) }
 {
@@ -45,7 +45,7 @@ fn passing_of_two(j: &Conflictor, k: &Conflictor) -> Result<Passing, AllocError>
     }
     let key = j.identity.key();
     match k.conflicts.get(&key) {
-        // `([], X, i) ([], Y, l) <-> ([], Y, l) ([], X, i)`
+        // Checks the case `([], X, i) ([], Y, l) <-> ([], Y, l) ([], X, i)`.
         None if lacks_key(k.identity.context().items(), &key) => Ok(Passing::Aside),
         None => Ok(Passing::Unknown),
         Some(_) => passing_out(j, k),

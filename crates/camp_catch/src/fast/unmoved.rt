@@ -16,7 +16,7 @@ use camp_prim::{Named, stay};
 use camp_seq::{is_own_order, stays_past};
 use std::alloc::{AllocError, Global};
 
-/// A quick check: true only if two catches, one after the other, commute unchanged, which they may also if it is false.
+/// True only if two catches, one after the other, commute unchanged, by a quick check. False decides nothing.
 pub(crate) fn commute_as_they_are(j: &Catch, k: &Catch) -> Result<bool, AllocError>
     ensures { IfOk result (λ yes. IsTrue yes → CommuteCatch j.now k.now k.now j.now) }
 {
@@ -69,7 +69,7 @@ fn stand_aside(alloc: Global, a: &Named, k: &Conflictor) -> Result<bool, AllocEr
     Ok(!in_conflict)
 }
 
-/// True only if a conflictor is unchanged when `a` passes its effect, is added to its conflicts, and is added
+/// True only if a conflictor is unchanged when `a` passes its effect, is added to each of its conflicts, and is added
 /// to its identity or passes it.
 fn stays_behind(a: &Named, k: &Conflictor) -> bool
     ensures passes { IsTrue result → Passes a.now k.now.effect k.now.effect a.now }

@@ -1,4 +1,4 @@
--- The lines of a content by its pieces between LFs.
+-- The lines of a content, from the pieces between its LFs.
 use Rattle.std.specs.Prelude.{◌≡◌, ℕ, ◌<◌, Bool, true, false, List, [], ◌∷◌, ◌++◌, length}
 use Rattle.camp_base.specs.Trees.{Lines}
 

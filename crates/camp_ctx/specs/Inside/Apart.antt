@@ -13,7 +13,7 @@ use Rattle.camp_ctx.specs.Conflicts.{has_label}
 abbrev pub NoCleanMerge : List Named → List Named → Type 0
 NoCleanMerge s t = (t' s' : List Named) → ¬ (CleanMerge s t t' s')
 
--- two lists merge cleanly as they are exactly if their normal orders merge cleanly
+-- as they are, two lists merge cleanly exactly if their normal orders do
 pub record MergesAsOrdered (s t : List Named) : Type 0 where
   pub forth : (s1 t1 t' s' : List Named) → Norm s s1 → Norm t t1 → CleanMerge s1 t1 t' s'
       → (v' : List Named) × (u' : List Named) × CleanMerge s t v' u'
@@ -25,7 +25,7 @@ pub record MergesAsOrdered (s t : List Named) : Type 0 where
 abbrev pub LacksLabels : List Named → List Named → Type 0
 LacksLabels s t = AllByRecursion (λ p. has_label t (label_of p) ≡ false) s
 
--- two primitives change two files and have two absolute labels
+-- two primitives change different files and have different absolute labels
 pub record Elsewhere (p q : Named) : Type 0 where
   pub paths : path_of p.prim ≢ path_of q.prim
   pub keys : ¬ (SameKey p q)

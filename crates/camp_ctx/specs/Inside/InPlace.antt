@@ -1,4 +1,4 @@
--- A context and the patch after it, and what a primitive that passes them leaves.
+-- A context and the patch after it, and when they stay in order as a primitive passes them.
 use Rattle.std.specs.Prelude.{List, [], ◌∷◌, ◌++◌}
 use Rattle.camp_prim.specs.Effect.{inverse_of}
 use Rattle.camp_prim.specs.declared.named.Named.{Named}
@@ -6,10 +6,10 @@ use Rattle.camp_seq.specs.NormalOrder.{Norm}
 use Rattle.camp_seq.specs.Room.{HasRoom}
 use Rattle.camp_ctx.specs.Contexts.{ContextedPatch}
 
--- c:p
+-- c:p, made from the context and the patch
 abbrev pub behind : List Named → Named → ContextedPatch
 behind c p = record { context = c; patch = p }
 
--- c and the patch p after it, which a has passed: if a^, c and p have headroom, c is its own normal order
+-- a has passed the context c and then p: if a^, c and p have headroom, c is its own normal order
 abbrev pub KeepsOrder : Named → List Named → Named → Type 0
 KeepsOrder a c p = HasRoom (inverse_of a ∷ (c ++ p ∷ [])) → Norm c c

@@ -1,4 +1,4 @@
-//! Conflicts with what is seen after a list, without making it.
+//! Conflicts with the result of adding a list, found without adding it.
 ghost use Rattle.std.specs.Prelude.{◌≡◌, ◌↔◌, ◌<◌, [], ◌∷◌, ◌++◌, false, length, IfOk, IfSome, IsTrue};
 ghost use Rattle.camp_prim.specs.Effect.{inverse_of};
 ghost use Rattle.camp_prim.specs.Labels.{label_of};
@@ -17,8 +17,8 @@ use camp_seq::{Seq, are_own_orders_of_chain, stays_past};
 use std::alloc::AllocError;
 use std::slice;
 
-/// A quick check of whether the patch `a`, without a context, conflicts with the result of adding the list `r` to `x`.
-/// `None` if that is not known without adding.
+/// Checks quickly whether the patch `a`, without a context, conflicts with the result of adding the list `r` to `x`.
+/// `None` if only adding can decide that.
 pub fn conflict_behind(a: &Named, r: &Seq, x: &Contexted) -> Result<Option<bool>, AllocError>
     ensures sound { IfOk result (λ told. IfSome told (λ found.
         (seen : ContextedPatch) × AddsAll r.now x.now seen × (IsTrue found ↔ Conflict (bare a.now) seen))) }
@@ -39,7 +39,7 @@ pub fn conflict_behind(a: &Named, r: &Seq, x: &Contexted) -> Result<Option<bool>
     Ok(None)
 }
 
-/// True if the inverse of a primitive passes a list and the patch after it, and all stay unchanged.
+/// True if the inverse of a primitive passes a list and the patch after it, and everything stays unchanged.
 fn goes_back(a: &Named, s: &[Named], patch: &Named) -> Result<bool, AllocError>
     ensures { IfOk result (λ yes. IsTrue yes →
         Passes (inverse_of a.now) (s.now ++ patch.now ∷ []) (s.now ++ patch.now ∷ []) (inverse_of a.now)) }
@@ -52,8 +52,8 @@ fn goes_back(a: &Named, s: &[Named], patch: &Named) -> Result<bool, AllocError>
     Ok(stay(&back, patch))
 }
 
-/// True if neither a list nor the patch after it has the label of a primitive, and the primitive does not
-/// merge with the first of the list.
+/// True if a primitive does not merge with the first element of a list, and its label is neither in the list nor that
+/// of the patch after it.
 fn stands_against(a: &Named, s: &[Named], patch: &Named) -> Result<bool, AllocError>
     requires { 0 < length s.now }
     ensures lacks { IfOk result (λ yes. IsTrue yes → has_label (s.now ++ patch.now ∷ []) (label_of a.now) ≡ false) }

@@ -16,8 +16,8 @@ use camp_seq::{Seq, can_commute, clean_merge, has_room_to_merge, is_own_order, s
 use std::alloc::AllocError;
 use std::slice;
 
-/// True only if two contexted patches conflict, by a quick check: they merge only in their order, and their
-/// first primitives do not merge. False decides nothing.
+/// True only if two contexted patches conflict, since they can be merged as they are and their first primitives do not
+/// merge. False decides nothing.
 pub(crate) fn clash(x: &Contexted, y: &Contexted) -> Result<bool, AllocError>
     ensures { IfOk result (λ yes. IsTrue yes → Conflict x.now y.now) }
 {
@@ -50,8 +50,8 @@ pub(crate) fn conflict_in_any_order(
     }
 }
 
-/// A quick check: true only if two contexted patches conflict exactly if they do not merge as they are, without
-/// ordering: they have no common label, and each is its own normal order or they have headroom.
+/// True only if two contexted patches can be merged as they are, without ordering, to decide whether they conflict:
+/// they have no common label, and each is its own normal order or both have headroom. False decides nothing.
 fn merge_as_they_stand(x: &Contexted, y: &Contexted) -> bool
     ensures labels { IsTrue result → LacksLabels (whole x.now) (whole y.now) }
     ensures orders { IsTrue result → MergesAsOrdered (whole x.now) (whole y.now) }
@@ -70,7 +70,7 @@ fn merge_as_they_stand(x: &Contexted, y: &Contexted) -> bool
     )
 }
 
-/// True if the quick check found both in normal order.
+/// True only if each of two contexted patches is its own normal order, by the quick check.
 fn are_ordered(x: &Contexted, y: &Contexted) -> bool
     ensures first { IsTrue result → Norm (whole x.now) (whole x.now) }
     ensures second { IsTrue result → Norm (whole y.now) (whole y.now) }
@@ -121,8 +121,7 @@ fn names(y: &Contexted, p: &Named) -> bool
     has_label(slice::from_ref(y.patch()), &label)
 }
 
-/// True only if a patch without a context is independent of a list: they merge, and both stay unchanged.
-/// False decides nothing.
+/// True only if a patch without a context and a list merge, and both stay unchanged. False decides nothing.
 pub(crate) fn stand_aside(x: &Contexted, t: &Seq) -> Result<bool, AllocError>
     ensures { IfOk result (λ yes. IsTrue yes → MergesBehindCommon (whole x.now) t.now t.now (whole x.now)) }
 {
@@ -137,7 +136,7 @@ pub(crate) fn stand_aside(x: &Contexted, t: &Seq) -> Result<bool, AllocError>
     Ok(is_own_order(t.items()))
 }
 
-/// True if two lists have no common label, and the quick check finds both in normal order.
+/// True only if two lists have no common label and each is its own normal order, by a quick check.
 pub(crate) fn are_apart(common: &[Label], s: &Seq, t: &Seq) -> bool
     ensures none { IsTrue result → common.now ≡ [] }
     ensures first { IsTrue result → Norm s.now s.now }
@@ -146,7 +145,7 @@ pub(crate) fn are_apart(common: &[Label], s: &Seq, t: &Seq) -> bool
     common.is_empty() && is_own_order(s.items()) && is_own_order(t.items())
 }
 
-/// Merges two lists. Copies neither if their first primitives do not merge.
+/// Merges two lists. Copies neither list if the first primitives do not merge.
 pub(crate) fn merge_apart(s: &Seq, t: &Seq) -> Result<Option<(Seq, Seq)>, AllocError>
     ensures exact { IfOk result (FindsPair (CleanMerge s.now t.now)) }
 {

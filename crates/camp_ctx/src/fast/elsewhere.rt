@@ -1,4 +1,4 @@
-//! Contexted patches that change other files do not conflict.
+//! A quick check: contexted patches that change different files do not conflict.
 ghost use Rattle.std.specs.Prelude.{IsTrue};
 ghost use Rattle.camp_ctx.specs.Conflicts.{Conflict};
 ghost use Rattle.camp_ctx.specs.Contexts.{whole};
@@ -7,8 +7,8 @@ ghost use Rattle.camp_ctx.specs.Inside.Apart.{AreElsewhere, Elsewhere, IsElsewhe
 use crate::Contexted;
 use camp_prim::{Named, have_same_key};
 
-/// True only if two contexted patches change other files, under other absolute labels, and so do not
-/// conflict. False decides nothing. Does not allocate.
+/// True only if two contexted patches change different files, under different absolute labels, and so do not conflict.
+/// False decides nothing. Does not allocate.
 pub(crate) fn are_elsewhere(x: &Contexted, y: &Contexted) -> bool
     ensures { IsTrue result → ¬ (Conflict x.now y.now) }
 {

@@ -1,4 +1,4 @@
-//! Adding a chain in one pass.
+//! Adding a chain in one step.
 ghost use Rattle.std.specs.Prelude.{◌≡◌, ◌≢◌, ◌<◌, ◌≤◌, ◌++◌, ◌↔◌, length, drop, IfOk, IsTrue};
 ghost use Rattle.camp_prim.specs.Effect.{inverse_of};
 ghost use Rattle.camp_prim.specs.Labels.{label_of};
@@ -11,8 +11,9 @@ use camp_prim::Named;
 use camp_seq::{Seq, are_own_orders_of_chain, can_commute, is_chain};
 use std::alloc::AllocError;
 
-/// Adds the end of a list to a contexted patch by inserting it before the context: as many elements as form a chain with
-/// it. Returns the index of the first of them, and the sum. The elements before that index are still to be added.
+/// Adds the last elements of a list to a contexted patch by inserting them before the context: as many as form a chain
+/// with it. Returns the index of the first of them, and the result. The elements before that index are still to be
+/// added.
 pub(crate) fn linked(r: &[Named], x: &Contexted) -> Result<(usize, Contexted), AllocError>
     ensures within { IfOk result (λ found. found.0 ≤ length r.now) }
     ensures added { IfOk result (λ found. AddsAll (drop found.0 r.now) x.now found.1) }
@@ -62,7 +63,8 @@ fn links_from(r: &[Named], s: &[Named], patch: &Named) -> usize
     0
 }
 
-/// True if the last element of a list may be linked to a context; if not, none of the list is.
+/// True if the last element of a list forms a chain with a context; if it does not, no element of the list is added as
+/// part of a chain.
 fn may_link(r: &[Named], s: &[Named], patch: &Named) -> bool {
     match r.last() {
         None => false,
@@ -70,8 +72,8 @@ fn may_link(r: &[Named], s: &[Named], patch: &Named) -> bool {
     }
 }
 
-/// True if a primitive neither commutes with nor cancels the first element after it; two lists and the patch
-/// come after it.
+/// True if a primitive neither commutes with nor cancels the element after it: the first of two lists or, if both are
+/// empty, the patch.
 fn links(a: &Named, r: &[Named], s: &[Named], patch: &Named) -> bool
     ensures { IsTrue result ↔ Links a.now (r.now ++ s.now) patch.now }
 {

@@ -1,4 +1,4 @@
-//! Quick checks of what a primitive leaves unchanged.
+//! Quick checks of what stays unchanged when a primitive is added.
 ghost use Rattle.std.specs.Prelude.{◌≤◌, length, drop, IsTrue, slice_get};
 ghost use Rattle.std.specs.FinMap as map;
 ghost use Rattle.camp_seq.specs.NormalOrder.{Norm};
@@ -11,8 +11,8 @@ use camp_prim::{Named, stay};
 use camp_seq::{Seq, stays_past};
 
 impl Contexted {
-    /// A quick check: true only if `a` passes the contexted patch, and adding `a` leaves it unchanged, which may be so
-    /// also if this is false. Does not allocate.
+    /// True only if `a` passes the contexted patch, and adding `a` leaves it unchanged. False decides nothing. Does not
+    /// allocate.
     pub fn stays_behind(&self, a: &Named) -> bool
         ensures sound { IsTrue result → AddsToContext a.now self.now self.now }
         ensures passes { IsTrue result → PassesBy a.now self.now self.now }
@@ -21,7 +21,7 @@ impl Contexted {
     }
 }
 
-/// The same check for a context and the patch after it; `told` says whether the context is known to be its own normal
+/// Makes the same check for a context and the patch after it; `told` is true only if the context is its own normal
 /// order.
 pub(crate) fn stays(a: &Named, context: &Seq, patch: &Named, told: bool) -> bool
     requires { IsTrue told → Norm context.now context.now }
@@ -37,8 +37,8 @@ pub(crate) fn stays(a: &Named, context: &Seq, patch: &Named, told: bool) -> bool
     stay(a, patch)
 }
 
-/// Returns the number of first elements of a list that have to be added: the elements after them leave the contexted
-/// patch unchanged.
+/// Returns the number of elements of a list, from its start, that have to be added: those after them leave the
+/// contexted patch unchanged.
 pub(crate) fn changing(r: &[Named], x: &Contexted) -> usize
     ensures within { result ≤ length r.now }
     ensures added { AddsAll (drop result r.now) x.now x.now }

@@ -1,4 +1,4 @@
--- The commit of a patch: its place in the history, and its changes at some paths.
+-- The commit of a patch: its position in the history, and its changes at some paths.
 use Rattle.std.specs.Prelude.{◌≡◌, ℕ, zero, suc, not, ◌&&◌, if◌then◌else◌, List, [], ◌∷◌, ◌++◌, map, Option, None, Some}
 use Rattle.std.specs.Ordering.{nat_cmp}
 use Rattle.std.specs.Cmp.Lexicographic.{slice_cmp}
@@ -25,33 +25,32 @@ commit_at place changes = record {
   changes = changes;
 }
 
--- the file of a path is deleted if one tree has it and the next does not
+-- the deletion of the file at a path, if one tree has it and the next one does not
 abbrev pub deletion_of : Files → Files → List ℕ → List FileChange
 deletion_of old new path =
     if contains_key old path && not (contains_key new path) then FileDelete path ∷ [] else []
 
--- a file gets these lines, if there are any
+-- the change that sets a file to these lines, if there are any
 abbrev pub modified_to : List ℕ → Option Lines → List FileChange
 modified_to path None = []
 modified_to path (Some lines) = FileModify path (content_of lines) ∷ []
 
--- the file of a path gets the lines that it has in a tree, if it exists there
+-- the change that sets the file at a path to its lines in a tree, if it exists there
 abbrev pub modification_of : Files → List ℕ → List FileChange
 modification_of new path = modified_to path (get new path)
 
--- the changes from one tree to another that differs only at some paths: files are deleted first, then others get
--- their lines
+-- the changes from one tree to another that differs only at these paths: deletions first, then the files that are set
 abbrev pub differences_of : Files → Files → List (List ℕ) → List FileChange
 differences_of old new paths = flat_map (deletion_of old new) paths ++ flat_map (modification_of new) paths
 
--- the paths of a set
+-- the paths of a set, in order
 abbrev pub paths_in : List (List ℕ × Unit {0}) → List (List ℕ)
 paths_in set = map (λ entry. entry.0) (entries (map_of (slice_cmp nat_cmp) set))
 
--- a text grows by changes whose paths can be named
+-- a text is extended by the commands of changes whose paths can be named
 abbrev pub GrowsBy : List ℕ → List FileChange → List ℕ → Type 0
 GrowsBy old changes new = (new ≡ old ++ flat_map change_command changes) × AllByRecursion HasGoodPath changes
 
--- a text grows by a commit that can be written
+-- a text is extended by the command of a commit that can be written
 abbrev pub IsWritten : List ℕ → Commit → List ℕ → Type 0
 IsWritten old commit new = (new ≡ old ++ commit_text commit) × IsGood commit

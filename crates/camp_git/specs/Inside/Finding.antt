@@ -1,4 +1,4 @@
--- The index of a path among the files of a tree, and the files in its folder.
+-- The index of a path among the files of a tree, and the files in the folder of that path.
 use Rattle.std.specs.Prelude.{◌≡◌, ℕ, ◌<◌, ◌≤◌, true, false, List, Some, length, slice_get, take}
 use Rattle.std.specs.Ordering.{nat_cmp}
 use Rattle.std.specs.Cmp.Lexicographic.{slice_cmp}
@@ -8,7 +8,7 @@ use Rattle.camp_base.specs.Trees.{Files, Lines}
 use Rattle.camp_git.specs.FastImport.{is_inside}
 use Rattle.camp_git.specs.Holding.{has_git_part}
 
--- the files before an index have paths less than these bytes, and the file at the index does not
+-- the files before this index have paths less than these bytes; the file at the index does not
 pub record IsPlaceOf (tree : Files) (bytes : List ℕ) (place : ℕ) : Type 0 where
   pub within : place ≤ len tree
   pub before : (k : ℕ) (file : List ℕ × Lines) → k < place → slice_get (entries tree) k ≡ Some file → slice_cmp nat_cmp file.0 bytes ≡ Less
@@ -27,11 +27,11 @@ HasInside tree path = (other : List ℕ) × (contains_key tree other ≡ true) �
 abbrev pub IsAround : Files → List ℕ → List ℕ → Type 0
 IsAround tree path file = (contains_key tree file ≡ true) × (is_inside file path ≡ true)
 
--- no file is a folder of the path
+-- no file of the tree is a folder of the path
 abbrev pub IsNoneAround : Files → List ℕ → Type 0
 IsNoneAround tree path = (file : List ℕ) → contains_key tree file ≡ true → is_inside file path ≡ false
 
--- a path has no part `.git`, no file is in its folder, and it is in the folder of none
+-- a path is free: it has no component `.git`, no file is in its folder, and no file is a folder of it
 pub record IsFree (tree : Files) (path : List ℕ) : Type 0 where
   pub plain : has_git_part path ≡ false
   pub empty : ¬ (HasInside tree path)

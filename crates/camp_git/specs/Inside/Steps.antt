@@ -7,17 +7,17 @@ use Rattle.camp_share.specs.Maps.{map_of}
 use Rattle.camp_base.specs.Trees.{Files}
 use Rattle.camp_prim.specs.declared.labels.Key.{Key}
 
--- the number of labels before the first one of place 1, which is where the next patch begins
+-- the number of labels before the first one with position 1, which begins the next patch
 abbrev pub led_by : List Key → ℕ
 led_by [] = zero
 led_by (key ∷ keys) = if key.place == 1 then zero else suc (led_by keys)
 
--- trees are the same at the paths outside a set
+-- two trees are the same at all paths outside a set
 abbrev pub StaysBeside : List (List ℕ × Unit {0}) → Files → Files → Type 0
 StaysBeside paths old new =
     (path : List ℕ) → contains_key (map_of (slice_cmp nat_cmp) paths) path ≡ false → get new path ≡ get old path
 
--- the same, and the paths of another set are in it
+-- the same, with a set that includes another one
 abbrev pub StaysBesideNew : List (List ℕ × Unit {0}) → List (List ℕ × Unit {0}) → Files → Files → Type 0
 StaysBesideNew fewer paths old new =
     (path : List ℕ) → contains_key (map_of (slice_cmp nat_cmp) paths) path ≡ false

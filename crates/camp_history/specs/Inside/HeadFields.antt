@@ -22,7 +22,7 @@ abbrev pub IsSlotFor : (position every number : ℕ) → Type 0
 IsSlotFor position every number = (0 < every) × ((number + 1) * every ≡ position)
 
 -- the invariant of a head: it tries a call at least once. It has a slot for each position at which a snapshot is kept
--- and one for each seat, all under its store, and as many slots for the parents of the snapshots.
+-- and one for each seat, all with its store, and as many slots for the parents of the snapshots.
 pub record IsHead {State Call Reply : Type 0} (head : Inside State Call Reply) : Type 0 where
   pub tries : 0 < head.tries
   pub slots : All (λ slot. slot.tag ≡ ids head.calls) head.snapshots.items

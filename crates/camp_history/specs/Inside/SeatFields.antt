@@ -7,11 +7,11 @@ use Rattle.camp_history.specs.Snapshots.{IsMarkPrefix, bases_in}
 use Rattle.camp_history.specs.declared.marks.Mark.{Mark}
 use Rattle.camp_history.specs.declared.seats.Seat.TheInside.{Inside}
 
--- the marks of all that it has seen
+-- the marks of all calls that a seat has seen
 abbrev pub marks_in : {State Call Reply : Type 0} → Inside State Call Reply → List (Mark Call)
 marks_in seat = seat.earlier ++ seat.tail.items
 
--- a seat as contracts see it; the first state of its history is read from its current state
+-- a seat as contracts see it; the initial state of its history is read from its current state
 abbrev pub seat_state : {State Call Reply : Type 0} → Sequential State Call Reply → Inside State Call Reply → SeatState State Call
 seat_state object seat = record {
   first = object.first seat.state;
@@ -20,8 +20,8 @@ seat_state object seat = record {
   bases = bases_in seat.bases.items;
 }
 
--- the invariant of a seat: it has a mark for each entry that its pass has seen, each of a seat of the row; its state
--- is the replay of their calls; and the marks begin with those of each noted snapshot
+-- the invariant of a seat: it has a mark for each entry that its pass has seen, each of a seat of the row; its state is
+-- the replay of their calls; and its marks begin with those of each snapshot that it noted
 pub record IsSeat {State Call Reply : Type 0} (object : Sequential State Call Reply) (seat : Inside State Call Reply)
     : Type 0 where
   pub entries_are : map entry_of (marks_in seat) ≡ seat.pass.seen

@@ -13,7 +13,7 @@ use Rattle.boxcar.specs.Table.{Where}
 use Rattle.camp_history.specs.Seats.{HeadId, SeatState, IsSeatOf, entry_of, history_of, caller_at}
 use Rattle.camp_history.specs.declared.marks.Mark.{Mark}
 
--- the entries of a seat's marks
+-- the entries of the row for a seat's marks
 abbrev pub seen_entries : {State Call : Type 0} → SeatState State Call → List Entry
 seen_entries seat = map entry_of seat.marks
 
@@ -24,8 +24,8 @@ pub record DecidesAt {State Call Reply : Type 0} (object : Sequential State Call
   pub replays : replay object history ≡ Some state
   pub decides : Decides object state call decided
 
--- what a head decides about a call after what a seat has seen: the next state, if the call is accepted and the seat
--- has a cell for it; else an answer
+-- what a head decides about a call, after the calls that a seat has seen: the next state if the call is accepted and
+-- the seat has a cell left for it; else an answer
 abbrev pub HeadDecision : {State Call Reply : Type 0} → Sequential State Call Reply → HeadId State → SeatState State Call → Call
     → Result (Decided State Reply) Fault → Type 0
 HeadDecision object head seat call (Ok (Next next)) =
@@ -45,21 +45,20 @@ with_mark seat mark = record {
   bases = seat.bases;
 }
 
--- a seat sees more: its pass is still that of the same seat and row, and none of the calls that are new to it is its
--- own
+-- a seat sees more calls: its pass stays that of the same seat and row, and none of the new calls is its own
 pub record SeesMore {State Call : Type 0} (old new : SeatState State Call) : Type 0 where
   pub number : new.known.number ≡ old.known.number
   pub row : new.known.row ≡ old.known.row
   pub more : IsBeginning (history_of old) (history_of new)
   pub own_stays : own old.known.number (history_of new) ≡ own old.known.number (history_of old)
 
--- a seat of a head sees more of the chain that it found
+-- a seat of a head sees more of the chain that it has found
 pub record SeesFurther {State Call : Type 0} (head : HeadId State) (old new : SeatState State Call) : Type 0 where
   pub of : IsSeatOf head new
   pub more : SeesMore old new
   pub ahead : new.known.ahead ≡ old.known.ahead
 
--- the seat published its call, which is the last that it has seen now
+-- a seat published its call, which is now the last that it has seen
 pub record Publishes {State Call : Type 0} (old : SeatState State Call) (call : Where Call) (new : SeatState State Call) : Type 0 where
   pub first : new.first ≡ old.first
   pub number : new.known.number ≡ old.known.number
@@ -67,7 +66,7 @@ pub record Publishes {State Call : Type 0} (old : SeatState State Call) (call : 
   pub marks : new.marks ≡ old.marks ++ record { seat = old.known.number; call = call } ∷ []
   pub bases : new.bases ≡ old.bases
 
--- an exchange was lost: the chain was longer than what the seat has seen, and the seat finds it
+-- a compare-exchange was lost: the chain was longer than what the seat had seen, and the seat has now found it
 pub record FindsMore {State Call : Type 0} (old new : SeatState State Call) : Type 0 where
   pub first : new.first ≡ old.first
   pub number : new.known.number ≡ old.known.number
@@ -76,14 +75,14 @@ pub record FindsMore {State Call : Type 0} (old new : SeatState State Call) : Ty
   pub bases : new.bases ≡ old.bases
   pub longer : IsProperPrefix (seen_entries new) new.known.ahead
 
--- the exchange was lost, at a history at which the call is accepted
+-- a compare-exchange was lost at a history at which the call would be accepted
 pub record LosesOne {State Call Reply : Type 0} (object : Sequential State Call Reply) (head : HeadId State)
     (old : SeatState State Call) (call : Call) (new : SeatState State Call) : Type 0 where
   pub has_room : length (own old.known.number (history_of old)) < head.row.per_seat
   pub accepted : IsAccepted object (history_of old) call
   pub finds : FindsMore old new
 
--- one attempt at a call: an answer, or none if the exchange was lost
+-- one attempt at a call: it gives an answer, or none if its compare-exchange was lost
 abbrev pub Attempts : {State Call Reply : Type 0} → Sequential State Call Reply → HeadId State → SeatState State Call → Call
     → Result (Option Reply) Fault → SeatState State Call → Type 0
 Attempts object head old call (Ok (Some reply)) new =

@@ -1,4 +1,4 @@
--- Trees that change by one change of their entries, and the paths at which they may differ from an earlier one.
+-- Trees after one change of their entries, and the paths at which they may differ from an earlier tree.
 use Rattle.std.specs.Prelude.{◌≡◌, ℕ, true, ◌⊎◌, List, [], ◌∷◌, Option, None, Some, Result, Ok, Err}
 use Rattle.std.specs.FinMap.{get, remove}
 use Rattle.camp_base.specs.Bytes.{is_path}
@@ -20,11 +20,11 @@ PathSet = List (List ℕ × Unit {0})
 abbrev pub HasAllOf : PathSet → PathSet → Type 0
 HasAllOf old new = (path : List ℕ) → HasPath old path → HasPath new path
 
--- a set has all paths of another one, and these bytes if they are a path
+-- a set has all paths of another one and, if these bytes are a path, that path
 abbrev pub AddsPlace : List ℕ → PathSet → PathSet → Type 0
 AddsPlace camp_path old new = HasAllOf old new × (is_path camp_path ≡ true → HasPath new camp_path)
 
--- a set has all paths of another one, and those of a path of git and of its attributes
+-- a set has all paths of another one, and the paths in camp of a path of git and of its attributes
 pub record AddsPlaces (path : List ℕ) (old new : PathSet) : Type 0 where
   pub all : HasAllOf old new
   pub own : is_path (place_path None path) ≡ true → HasPath new (place_path None path)
@@ -32,7 +32,7 @@ pub record AddsPlaces (path : List ℕ) (old new : PathSet) : Type 0 where
   pub newline : is_path (place_path (Some LacksNewline) path) ≡ true → HasPath new (place_path (Some LacksNewline) path)
   pub wrapped : is_path (place_path (Some Wrapped) path) ≡ true → HasPath new (place_path (Some Wrapped) path)
 
--- a tree is the code of a git tree, and the paths are still all at which it differs from an earlier tree
+-- a tree is the code of a git tree, and differs from an earlier tree only at these paths
 pub record StepsTo (git : GitEntries) (old new : ChangedTree) : Type 0 where
   pub encodes : EncodesTree git new.tree
   pub differs : (first : Files) → DifferWithin old.paths first old.tree → DifferWithin new.paths first new.tree
@@ -43,29 +43,30 @@ pub record StepsBy (change : EntryChange) (git : GitEntries) (old new : ChangedT
   pub changes : ChangesEntries change git after
   pub steps : StepsTo after old new
 
--- the tree after one change of its entries, or why the change can't be held
+-- the result of a change of entries: the tree after it, or why camp can't store that tree
 abbrev pub StepsOr : EntryChange → ChangedTree → Result ChangedTree EncodeFault → Type 0
 StepsOr change old (Ok new) = CanBeHeld change × ((git : GitEntries) → EncodesTree git old.tree → StepsBy change git old new)
 StepsOr change old (Err why) = CannotSet why (Some change)
 
--- the entry of a path is gone
+-- the new tree has no entry at a path
 abbrev pub RemovesEntry : List ℕ → ChangedTree → ChangedTree → Type 0
 RemovesEntry path old new = (git : GitEntries) → EncodesTree git old.tree → StepsTo (remove git path) old new
 
--- the entries in a folder are gone
+-- the new tree has no entry in a folder
 pub record RemovesFolder (folder : List ℕ) (git : GitEntries) (old new : ChangedTree) : Type 0 where
   pub after : GitEntries
   pub empties : EmptiesFolder folder git after
   pub steps : StepsTo after old new
 
--- the entry that is stored at a path of camp is gone if its path has a prefix; all others stand as they did
+-- if a path of camp stores an entry of git whose path has a prefix, the new tree has no such entry; all others are
+-- unchanged
 pub record RemovesIfBelow (camp_path prefix : List ℕ) (git : GitEntries) (old new : ChangedTree) : Type 0 where
   pub after : GitEntries
   pub gone : (path : List ℕ) → AreBytes path → escaped_path path ≡ camp_path → has_prefix prefix path ≡ true → get after path ≡ None
   pub stays : (path : List ℕ) → (get after path ≡ get git path) ⊎ ((get after path ≡ None) × (has_prefix prefix path ≡ true))
   pub steps : StepsTo after old new
 
--- a set has the paths of another one, and the path of a file that a tree does not have
+-- a set has the paths of another one and, if a tree does not have the file at a path, that path
 pub record AddsOther (path : List ℕ) (lines : Lines) (other : Files) (old new : PathSet) : Type 0 where
   pub all : HasAllOf old new
   pub own : HasPath new path ⊎ (get other path ≡ Some lines)
@@ -77,7 +78,7 @@ pub record HasOther (tree other : Files) (path : List ℕ) : Type 0 where
   pub found : get tree path ≡ Some lines
   pub differs : ¬ (get other path ≡ Some lines)
 
--- a set has the paths of another one, and each path at which a tree has a file that a second one does not have
+-- a set has the paths of another one, and the path of each file that one tree has and a second one does not have
 pub record AddsDifferences (tree other : Files) (old new : PathSet) : Type 0 where
   pub all : HasAllOf old new
   pub each : (path : List ℕ) (lines : Lines) → get tree path ≡ Some lines → HasPath new path ⊎ (get other path ≡ Some lines)

@@ -13,7 +13,7 @@ use Rattle.camp_import.specs.TreeChanges.{HasShortSides, LeadThrough, most_file_
 use Rattle.camp_import.specs.declared.edits.ChangeFault.{ChangeFault}
 use Rattle.camp_import.specs.declared.edits.ChangeFault.TheVariants.{Memory, TooManyLines}
 
--- a path has these lines now, or no file; all other paths are as they were
+-- in the new tree a path has these lines, or no file; all other paths are unchanged
 pub record PutsLines (path : List ℕ) (lines : Option Lines) (old new : Files) : Type 0 where
   pub at : get new path ≡ lines
   pub other : (another : List ℕ) → ¬ (another ≡ path) → get new another ≡ get old another
@@ -24,11 +24,11 @@ pub record LeadToFile (path : List ℕ) (lines : Option Lines) (changes : List P
   pub lead : LeadThrough changes old after
   pub sets : PutsLines path lines old after
 
--- a change is of a path whose file becomes another one
+-- a change is of this path, whose file is to become another one
 abbrev pub IsOfChangedFile : List ℕ → (old new : Option Lines) → Primitive → Type 0
 IsOfChangedFile path old new change = (path_of change ≡ path) × (old ≢ new)
 
--- a list grows by changes that lead from each tree with these lines at a path to one with those
+-- a list grows by changes that lead from each tree with these old lines at a path to one with those new lines there
 pub record GrowsByFile (path : List ℕ) (old new : Option Lines) (before after : List Primitive) : Type 0 where
   pub more : List Primitive
   pub grows : after ≡ before ++ more
@@ -41,18 +41,18 @@ abbrev pub primitive_of : List ℕ → (old new : Lines) → DiffHunk → Primit
 primitive_of path old new hunk =
     Hunk (hunk_of path (hunk.new_start + 1) (lines_between hunk.old_start hunk.old_end old) (lines_between hunk.new_start hunk.new_end new))
 
--- lines that may be there are too many
+-- the lines of a file, if there is one, are too many
 abbrev pub AreTooMany : Option Lines → Type 0
 AreTooMany None = ⊥
 AreTooMany (Some lines) = most_file_lines < length lines
 
--- the list grows by the changes of a file; or one of the two sides is too long; or memory ran out
+-- a list grows by the changes of a file; or a state of the file has too many lines; or memory ran out
 abbrev pub GrowsByFileOr : List ℕ → (old new : Option Lines) → List Primitive → Result (Unit {0}) ChangeFault → List Primitive → Type 0
 GrowsByFileOr path old new before (Ok done) after = GrowsByFile path old new before after
 GrowsByFileOr path old new before (Err TooManyLines) after = AreTooMany old ⊎ AreTooMany new
 GrowsByFileOr path old new before (Err Memory) after = Unit {0}
 
--- a list grows by the changes of a hunk, whatever the file is
+-- a list grows by the changes of a hunk, whatever the other lines of the file are
 pub record GrowsByHunk (path : List ℕ) (old new : Lines) (hunk : DiffHunk) (before after : List Primitive) : Type 0 where
   pub more : List Primitive
   pub grows : after ≡ before ++ more
@@ -60,12 +60,12 @@ pub record GrowsByHunk (path : List ℕ) (old new : Lines) (hunk : DiffHunk) (be
   pub short : AllByRecursion HasShortSides more
   pub own : AllByRecursion (λ change. path_of change ≡ path) more
 
--- the sides of a hunk are not too long
+-- neither side of a hunk is too long for a script
 pub record IsShort (hunk : DiffHunk) : Type 0 where
   pub old_short : hunk.old_end ≤ hunk.old_start + most_side_lines
   pub new_short : hunk.new_end ≤ hunk.new_start + most_side_lines
 
--- a piece is the start of a hunk: its sides are not too long, and lines are left
+-- a piece is the start of a hunk: its sides are not too long for a script, and lines of the hunk are left
 pub record IsFirstPiece (hunk piece : DiffHunk) : Type 0 where
   pub old_start : piece.old_start ≡ hunk.old_start
   pub new_start : piece.new_start ≡ hunk.new_start

@@ -1,22 +1,22 @@
--- Calls of an entry, decided before anything of them is kept.
+-- Calls of an entry, decided before any of them is added to the history.
 use Rattle.std.specs.Prelude.{◌≡◌, ℕ, ◌+◌, ◌⊎◌, List, [], ◌∷◌, ◌++◌, length, Option, None, Some}
 use Rattle.std.specs.Option.{unwrap_or}
 use Rattle.camp_object.specs.Objects.{Sequential}
 use Rattle.camp_object.specs.Histories.{replay}
 use Rattle.camp_member.specs.Decisions.{AreDecided}
 
--- what was decided: the state after it if a call was accepted, the accepted calls, and the replies
+-- a draft: the state after the accepted calls if there are any, these calls, and the replies to all
 pub record Drafted (State Call Reply : Type 0) : Type 0 where
   pub next : Option State
   pub accepted : List (ℕ × Call)
   pub replies : List Reply
 
 module _ {State Call Reply : Type 0} (object : Sequential State Call Reply) (begun : State) (before : ℕ) where
-  -- the draft counts each call that was accepted
+  -- the draft's state counts each accepted call
   abbrev pub CountsEach : Drafted State Call Reply → Type 0
   CountsEach draft = object.count (unwrap_or draft.next begun) ≡ before + length draft.accepted
 
-  -- one more call is accepted, and its reply has its position
+  -- the draft after one more call that is accepted; the reply contains its position
   pub record AcceptsOne (old : Drafted State Call Reply) (seat : ℕ) (call : Call) (new : Drafted State Call Reply) : Type 0 where
     pub state : State
     pub after : object.after (unwrap_or old.next begun) call ≡ Some state
@@ -24,7 +24,7 @@ module _ {State Call Reply : Type 0} (object : Sequential State Call Reply) (beg
     pub accepted : new.accepted ≡ old.accepted ++ (seat, call) ∷ []
     pub replies : new.replies ≡ old.replies ++ object.done (before + length old.accepted + 1) ∷ []
 
-  -- one more call is answered
+  -- the draft after one more call that is not accepted
   pub record AnswersOne (old : Drafted State Call Reply) (seat : ℕ) (call : Call) (new : Drafted State Call Reply) : Type 0 where
     pub reply : Reply
     pub stays : object.after (unwrap_or old.next begun) call ≡ None
@@ -36,7 +36,7 @@ module _ {State Call Reply : Type 0} (object : Sequential State Call Reply) (beg
   abbrev pub DecidesOne : Drafted State Call Reply → ℕ → Call → Drafted State Call Reply → Type 0
   DecidesOne old seat call new = AcceptsOne old seat call new ⊎ AnswersOne old seat call new
 
-  -- the draft of some calls after any history that leads to the state before them
+  -- the draft of some calls is right after any history that leads to the state before them
   abbrev pub DraftsAll : ℕ → List Call → Drafted State Call Reply → Type 0
   DraftsAll seat calls draft =
       (history : List (ℕ × Call)) → replay object history ≡ Some begun → length history ≡ before

@@ -1,4 +1,4 @@
--- Steps by which a member answers what it can.
+-- Steps by which a member answers the requests that it can answer.
 use Rattle.std.specs.Prelude.{◌≡◌, ◌<◌, ◌≤◌, ℕ, Bool, true, false, List, [], ◌∷◌, ◌++◌, length, Result, Some}
 use Rattle.camp_object.specs.Objects.{Sequential}
 use Rattle.camp_object.specs.Histories.{IsAccepted}
@@ -12,7 +12,7 @@ use Rattle.camp_member.specs.declared.wanting.Rest.{Rest}
 use Rattle.camp_member.specs.declared.wanting.Rest.TheVariants.{Nothing, Waits, Sends, UnderWay}
 
 module _ {State Call Reply : Type 0} (object : Sequential State Call Reply) where
-  -- the first request is answered at what was read
+  -- the first request is answered, given what was read
   pub record AnswersFirst (old new : Membership State Call Reply) : Type 0 where
     pub request : Request Call
     pub answer : Result Reply NoReply
@@ -25,8 +25,9 @@ module _ {State Call Reply : Type 0} (object : Sequential State Call Reply) wher
     pub is_stopped : new.is_stopped ≡ old.is_stopped
     pub sent : new.sent ≡ old.sent
 
-  -- what a member needs of the log: nothing, if no request waits; more accepted calls, if the first waits for them; that the
-  -- first is appended, if it is accepted at what was read; the entry under way
+  -- what a member needs from its log: nothing if no request waits; more accepted calls if the first request waits for
+  -- them; an append if the first request's call is accepted after what was read; or the entry under way, until it is
+  -- found
   abbrev pub IsRest : Membership State Call Reply → Rest → Type 0
   IsRest member Nothing = (member.sent ≡ 0) × (member.waiting ≡ [])
   IsRest member Waits =
@@ -38,14 +39,14 @@ module _ {State Call Reply : Type 0} (object : Sequential State Call Reply) wher
       × IsAccepted object member.reading.history request.call × (object.is_writing request.call ≡ true))
   IsRest member UnderWay = 0 < member.sent
 
-  -- what a member can do next: answer its first request, or no more without the log
+  -- the next step of a member: it answers its first request, or can do nothing without the log
   abbrev pub IsNext : Membership State Call Reply → Next Reply → Type 0
   IsNext member (Answers answer) =
       (member.sent ≡ 0)
       × ((request : Request Call) × (rest : List (Request Call)) × (member.waiting ≡ request ∷ rest) × IsAnswerTo object member request (Some answer))
   IsNext member (Rests rest) = IsRest member rest
 
-  -- whether the first request waits for more than a log has that ends at an index
+  -- whether the first request waits for more calls than a log has that ends at this index
   abbrev pub TellsEnd : Membership State Call Reply → ℕ → Bool → Type 0
   TellsEnd member index true = (request : Request Call) × (rest : List (Request Call)) × WaitsAtEnd object member index request rest
   TellsEnd member index false = (request : Request Call) (rest : List (Request Call)) → ¬ (WaitsAtEnd object member index request rest)

@@ -2,7 +2,7 @@
 use Rattle.std.specs.Prelude.{ℕ, List}
 use Rattle.camp_base.specs.Trees.{Lines}
 
--- the old lines of the file at a path are replaced by new ones
+-- replaces the old lines by the new ones in the file at a path
 pub record Replacement : Type 0 where
   pub path : List ℕ
   pub old : Lines

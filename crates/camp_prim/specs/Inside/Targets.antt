@@ -6,19 +6,19 @@ use Rattle.camp_prim.specs.declared.commuting.Targets.{Targets}
 use Rattle.camp_prim.specs.declared.primitives.Primitive.{Primitive}
 use Rattle.camp_prim.specs.declared.primitives.Primitive.TheVariants.{Add, Remove, Hunk}
 
--- a primitive at another line, if one is given; only a hunk moves
+-- a primitive moved to another line, if one is given; only a hunk has a line
 abbrev pub moved : Option ℕ → Primitive → Primitive
 moved None p = p
 moved (Some line) (Add path) = Add path
 moved (Some line) (Remove path) = Remove path
 moved (Some line) (Hunk hunk) = Hunk (at_line line hunk)
 
--- p and then q, moved to their targets and exchanged
+-- p and then q, each moved to its new line, in the other order
 abbrev pub turned : Primitive → Primitive → Targets → Primitive × Primitive
 turned p q targets = (moved targets.second q, moved targets.first p)
 
--- the line of a hunk that commutes with one above it: it is `gap` lines below the new lines of the upper hunk before, and
--- `gap` lines below the old lines of the upper hunk after, and in range there
+-- the new line of a hunk that commutes with one above it, if it is in range. The hunk was `gap` lines below the new
+-- lines of the upper hunk; it is then `gap` lines below the old ones.
 pub record ComesTo (upper takes leaves : ℕ) (lower : Edit) (line : ℕ) : Type 0 where
   pub gap : ℕ
   pub stands : lower.line ≡ upper + leaves + gap

@@ -1,4 +1,4 @@
--- The catches of a branch that come after those of the patches that another one has too.
+-- The catches of a branch after those of the patches that another branch has too.
 use Rattle.std.specs.Prelude.{◌≡◌, ◌⊎◌, ℕ, List}
 use Rattle.camp_catch.specs.Arranging.{Arrange}
 use Rattle.camp_catch.specs.declared.catches.Catch.{Catch}
@@ -8,11 +8,11 @@ use Rattle.camp_questions.specs.Along.{HaveDiverged}
 use Rattle.camp_questions.specs.declared.faults.Unanswered.{Unanswered}
 use Rattle.camp_questions.specs.declared.faults.Unanswered.TheVariants.{Refused, Memory}
 
--- these catches of a branch come after those of the common patches
+-- once the common patches are moved to the front of a branch, these catches come after them
 abbrev pub AreAfterCommon : List Catch → List Catch → List Catch → Type 0
 AreAfterCommon from to behind = (common : List Catch) × Arrange (common_names from to) from common behind
 
--- the catches after the common patches cannot be found: the branches have diverged, or memory ran out
+-- these catches cannot be found: the branches have diverged, or memory ran out
 abbrev pub AreNotFound : List Catch → List Catch → Unanswered → Type 0
 AreNotFound from to why =
     ((name : List ℕ) × HaveDiverged from to name × (why ≡ Refused (Diverged name))) ⊎ (why ≡ Memory)

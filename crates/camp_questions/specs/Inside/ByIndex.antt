@@ -5,25 +5,25 @@ use Rattle.camp_questions.specs.Graphs.{Needing, needs_directly}
 use Rattle.camp_questions.specs.declared.graphs.Node.{Node}
 use Rattle.camp_questions.specs.declared.needed.Needed.{Needed}
 
--- the indexes of `n` patches
+-- the indexes below `n`, in ascending order
 abbrev pub indexes_below : ℕ → List ℕ
 indexes_below zero = []
 indexes_below (suc n) = indexes_below n ++ n ∷ []
 
--- the name at an index
+-- the name at an index; empty past the end
 abbrev pub name_at_index : List (List ℕ) → ℕ → List ℕ
 name_at_index names place = get_or names place []
 
--- the patch at the index `at`, whose dependencies have these marks, depends on the patch at the index `place`
+-- the patch at the index `at`, given the marks of its dependencies, depends on the patch at the index `place`
 abbrev pub needs_index : List Bool → ℕ → ℕ → Bool
 needs_index marks at place = not (place == at) && get_or marks place false
 
--- no patch has a mark beyond its own index
+-- no patch has a mark past its own index
 abbrev pub EndAtOwnIndex : List Needed → Type 0
 EndAtOwnIndex all = (k : ℕ) (d : Needed) → k < length all → length (get_or all k d).needs.items ≤ k + 1
 
--- no patch before the index `settled` depends on one at these indexes: `settled` is 0, or no patch has a mark beyond
--- its own index and `settled` is at most the least of these
+-- no patch before the index `settled` depends on one at these indexes: `settled` is 0; or no patch has a mark past its
+-- own index, and `settled` is at most the least of these indexes
 abbrev pub AreSettled : Bool → List ℕ → ℕ → Type 0
 AreSettled in_place places settled =
     (settled ≡ 0) ⊎ ((in_place ≡ true) × AllByRecursion (λ place. settled ≤ place) places)

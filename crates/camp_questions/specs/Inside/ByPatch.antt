@@ -14,7 +14,7 @@ AreOfPatch name list = AllByRecursion (λ k. name_of k ≡ name) list
 abbrev pub AreApart : List ℕ → List Catch → Type 0
 AreApart name list = AllByRecursion (λ k. bytes_eq (name_of k) name ≡ false) list
 
--- the names of some patches
+-- the names of some patches, in order
 abbrev pub names_in_order : List PatchCatches → List (List ℕ)
 names_in_order patches = map (λ (patch : PatchCatches). patch.name) patches
 
@@ -33,7 +33,7 @@ pub record ArePatchesOf (list : List Catch) (patches : List PatchCatches) : Type
   pub catches : catches_in_order patches ≡ list
   pub names : names_in_order patches ≡ names_of list
 
--- the number of catches before the first one of the next patch
+-- the number of catches at the start of a list that are of the patch of this name
 abbrev pub until_next : List Catch → ℕ
 until_next [] = zero
 until_next (k ∷ list) = cond ((catch_key k).place == 1) zero (suc (until_next list))

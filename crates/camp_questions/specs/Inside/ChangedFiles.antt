@@ -9,25 +9,25 @@ use Rattle.camp_questions.specs.declared.fast.changed_files.PatchFiles.{PatchFil
 use Rattle.camp_questions.specs.declared.fast.going.Going.{Going}
 use Rattle.camp_questions.specs.declared.fast.patch_catches.PatchCatches.{PatchCatches}
 
--- the number of different hash numbers
+-- the number of possible hashes
 abbrev pub how_many : ℕ
 how_many = 4_093
 
--- the hash number of bytes, continued from that of the bytes before them
+-- the hash of bytes, continued from the hash of the bytes before them
 abbrev pub hash_after : ℕ → List ℕ → ℕ
 hash_after number [] = number
 hash_after number (byte ∷ bytes) = hash_after ((number * 31 + byte) % how_many) bytes
 
--- the hash number of a path: several paths may have the same one
+-- the hash of a path; several paths may have the same one
 abbrev pub file_number : List ℕ → ℕ
 file_number path = hash_after 0 path
 
--- the hash number of the file that a plain catch changes
+-- the hash of the path that a plain catch changes
 abbrev pub number_of : Catch → ℕ
 number_of (Plain p) = file_number (path_of p.prim)
 number_of (Catch.Conflictor k) = 0
 
--- for each patch the hash numbers of the files that its catches change
+-- for each patch the hashes of the paths that its catches change
 abbrev pub AreFilesOf : List PatchCatches → List PatchFiles → Type 0
 AreFilesOf patches files =
     map (λ (files : PatchFiles). files.numbers.items) files
@@ -38,26 +38,26 @@ abbrev pub IsPlainInRange : Catch → Type 0
 IsPlainInRange (Plain p) = InRange p.prim
 IsPlainInRange (Catch.Conflictor k) = ⊥
 
--- a patch has plain catches in range, and these are the hash numbers of the files that they change
+-- a patch has plain catches in range, and these are the hashes of the paths that they change
 pub record HasFiles (patch : PatchCatches) (files : PatchFiles) : Type 0 where
   pub plain : AllByRecursion IsPlainInRange patch.catches.items
   pub numbers : files.numbers.items ≡ map number_of patch.catches.items
 
--- a number is marked
+-- a hash is marked
 abbrev pub is_marked : List Bool → ℕ → Bool
 is_marked marks number = get_or marks number false
 
--- these numbers are marked, and those that were marked before
+-- these hashes become marked; those that were marked before stay so
 abbrev pub AreMarkedToo : List Bool → List ℕ → List Bool → Type 0
 AreMarkedToo old numbers new =
     (number : ℕ) → is_marked new number ≡ (is_marked old number || list_any (λ other. number == other) numbers)
 
--- a catch is plain and in range, and the number of its file is marked
+-- a catch is plain and in range, and the hash of its path is marked
 abbrev pub IsMarkedPlain : List Bool → Catch → Type 0
 IsMarkedPlain marks (Plain p) = InRange p.prim × (is_marked marks (file_number (path_of p.prim)) ≡ true)
 IsMarkedPlain marks (Catch.Conflictor k) = ⊥
 
--- the catches that are to be taken out are plain and in range, and the hash numbers of their files are marked
+-- the catches that are to be taken out are plain and in range, and the hashes of their paths are marked
 pub record GoMarked (going : Going) : Type 0 where
   pub long : length going.files.items ≡ how_many
   pub marked : AllByRecursion (IsMarkedPlain going.files.items) going.catches.items

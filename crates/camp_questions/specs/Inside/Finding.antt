@@ -11,7 +11,7 @@ pub record IsFound (state : Contents) (branch : List ℕ) (names : List (List �
   pub is : catches_of state.branches branch ≡ Some catches
   pub has : first_lacked catches names ≡ None
 
--- there is no branch of the name, or it lacks the patch of one of these names, and this is the refusal
+-- a question is refused with this refusal: there is no branch of the name, or it lacks the patch of one of these names
 abbrev pub IsRefused : Contents → List ℕ → List (List ℕ) → Refusal → Type 0
 IsRefused state branch names refusal =
     MatchOption (catches_of state.branches branch) (refusal ≡ NoBranch branch) (λ catches.

@@ -1,4 +1,4 @@
--- The dependencies of patches, as marks by their index in a branch.
+-- The dependencies of patches as marks, one for each index of the branch.
 use Rattle.std.specs.Prelude.{◌≡◌, ◌<◌, ℕ, ◌+◌, Bool, true, false, ◌||◌, cond, List, [], ◌∷◌, map, length, get_or, reverse}
 use Rattle.std.specs.List.{AllByRecursion}
 use Rattle.camp_prim.specs.declared.named.Named.{Named}
@@ -18,7 +18,7 @@ marked [] marks = []
 marked (name ∷ names) [] = []
 marked (name ∷ names) (mark ∷ marks) = cond mark (name ∷ marked names marks) (marked names marks)
 
--- the indexes that are marked in one list or in the other, which is not the longer one
+-- for each index, whether it is marked in one of two lists; the second is not the longer one
 abbrev pub marked_in_both : List Bool → List Bool → List Bool
 marked_in_both [] more = []
 marked_in_both (mark ∷ marks) [] = mark ∷ marks
@@ -33,7 +33,7 @@ pub record NeedEach (branch : List Catch) (names : List (List ℕ)) (all : List 
   pub names_are : map (λ (patch : Needed). patch.name) all ≡ names
   pub needs : AllByRecursion (λ patch. NeedsThese branch (needing names patch)) all
 
--- a branch of plain catches with headroom, as its patches with their catches inverted
+-- the patches of a branch of plain catches with headroom, with their catches inverted
 pub record IsInverted (branch : List Catch) (patches : List PatchCatches) : Type 0 where
   pub forth : List Named
   pub plain : branch ≡ map Plain forth
@@ -43,17 +43,17 @@ pub record IsInverted (branch : List Catch) (patches : List PatchCatches) : Type
   pub names : names_in_order patches ≡ names_of branch
   pub inverses : catches_in_order (reverse patches) ≡ map Plain (inverse_all forth)
 
--- the dependencies of each of the first patches are known, as marks up to its own index
+-- the dependencies of each patch in `known` are marked right, up to the patch's own index
 pub record AreKnown (branch : List Catch) (names : List (List ℕ)) (known : List Needed) : Type 0 where
   pub named : (k : ℕ) (d : Needed) (n : List ℕ) → k < length known → (get_or known k d).name ≡ get_or names k n
   pub needs : (k : ℕ) (d : Needed) → k < length known → NeedsThese branch (needing names (get_or known k d))
   pub long : (k : ℕ) (d : Needed) → k < length known → length (get_or known k d).needs.items ≡ k + 1
 
--- the marks of the dependencies of the patch at an index are known, up to that index
+-- the dependencies of the patch at an index are marked right, up to that index
 pub record AreReached (branch : List Catch) (names : List (List ℕ)) (place : ℕ) (marks : List Bool) : Type 0 where
   pub long : length marks ≡ place + 1
   pub needs : (n : List ℕ) → NeedsThese branch (record { name = get_or names place n; needs = marked names marks })
 
--- all indexes below one are marked
+-- all indexes below `at` are marked
 abbrev pub AreMarkedBelow : List Bool → ℕ → Type 0
 AreMarkedBelow marks place = (r : ℕ) → r < place → get_or marks r false ≡ true

@@ -1,20 +1,20 @@
--- Sets of names that grow: each name that blocks them is added.
+-- Sets of names to which each name is added that stops them from being moved or taken out.
 use Rattle.std.specs.Prelude.{◌≡◌, ℕ, List, ◌++◌}
 use Rattle.camp_catch.specs.declared.catches.Catch.{Catch}
 use Rattle.camp_branch.specs.Branches.{is_among}
 use Rattle.camp_questions.specs.Dependencies.{AreAdded, AreHeldIn, CanGo, CanMoveToFront, AreBlockedBy}
 
--- a set has the names, and those that are added one by one until `Done` holds
+-- a set has the names and those that are added one by one until `Done` holds
 abbrev pub Grows :
     (List (List ℕ) → Type 0) → (List (List ℕ) → List ℕ → Type 0) → List (List ℕ) → List (List ℕ) → Type 0
 Grows Done Stops names grown =
     (added : List (List ℕ)) × AreAdded Done Stops names added
     × ((name : List ℕ) → is_among grown name ≡ is_among (names ++ added) name)
 
--- a set has the names, and those that are added until all can be moved to the front of a branch
+-- a set has the names and those that are added until all can be moved to the front of a branch
 abbrev pub GrowsToFront : List Catch → List (List ℕ) → List (List ℕ) → Type 0
 GrowsToFront branch = Grows (CanMoveToFront branch) (AreBlockedBy branch)
 
--- a set has the names, and those that are added until all can be taken out of a branch
+-- a set has the names and those that are added until all can be taken out of a branch
 abbrev pub GrowsToGo : List Catch → List (List ℕ) → List (List ℕ) → Type 0
 GrowsToGo branch = Grows (CanGo branch) (AreHeldIn branch)

@@ -1,4 +1,4 @@
--- The unresolved conflicts of catches, in no order and with duplicates.
+-- The unresolved conflicts of catches, unordered, possibly with repetitions.
 use Rattle.std.specs.Prelude.{ℕ, List, [], map, filter, if◌then◌else◌}
 use Rattle.std.specs.List.{flat_map}
 use Rattle.std.specs.FinMap.{keys}
@@ -9,11 +9,11 @@ use Rattle.camp_branch.specs.Branches.{name_of}
 use Rattle.camp_branch.specs.Inside.Collecting.{pair_of}
 use Rattle.camp_questions.specs.OpenConflicts.{is_open}
 
--- the pair of a name and the name of a contexted patch, if the label of the latter is unresolved; else none
+-- a name and that of a contexted patch as a pair, if the label of the contexted patch is unresolved; else none
 abbrev pub open_with : ContextedPatches → List ℕ → ContextedPatch → List (List ℕ × List ℕ)
 open_with seen name x = if is_open seen (context_key x) then pair_of name x.patch.name else []
 
--- the names of the patches in a set whose labels are unresolved
+-- the names of those patches of a set whose labels are unresolved
 abbrev pub open_within : ContextedPatches → ContextedPatches → List (List ℕ)
 open_within seen xs = map (λ key. key.name) (filter (is_open seen) (keys xs))
 

@@ -16,7 +16,7 @@ pub record AreRelated (branch : List Catch) (name : List ℕ) (related : List (L
   pub holds : HeldBy branch (name ∷ []) held
   pub are : related ≡ in_order branch (needed ++ held)
 
--- a patch with its dependencies among some patches, as marks by their index in the list of these
+-- a patch with its dependencies among some patches, as marks by their index among these
 pub record IsMarkedAmong (branch : List Catch) (among : List (List ℕ)) (patch : Needed) : Type 0 where
   pub needed : List (List ℕ)
   pub grown : List (List ℕ)

@@ -9,30 +9,30 @@ use Rattle.camp_ctx.specs.Adding.{AddsAll}
 use Rattle.camp_ctx.specs.Contexts.{ContextedPatch, ContextedPatches, context_key}
 use Rattle.camp_questions.specs.Sides.{AppendsNew}
 
--- the first of some contexted patches with an absolute label
+-- the first contexted patch of a list that has this absolute label
 abbrev pub first_with_key : Key → List ContextedPatch → Option ContextedPatch
 first_with_key key [] = None
 first_with_key key (x ∷ xs) = if eq_by_cmp key_cmp key (context_key x) then Some x else first_with_key key xs
 
--- the contexted patch of a label after a list was added before it
+-- the contexted patch of a label after a list was added to it
 abbrev pub SeenAfter : List Named → Option ContextedPatch → Option ContextedPatch → Type 0
 SeenAfter undone None seen = seen ≡ None
 SeenAfter undone (Some x) seen = (y : ContextedPatch) × AddsAll undone x y × (seen ≡ Some y)
 
--- the contexted patch of a label after one more catch: one that was there stays
+-- the contexted patch of a label after one more catch was read; one that was gathered before stays
 abbrev pub SeenToo : List Named → Option ContextedPatch → Option ContextedPatch → Option ContextedPatch → Type 0
 SeenToo undone None told seen = SeenAfter undone told seen
 SeenToo undone (Some x) told seen = seen ≡ Some x
 
--- the contexted patches of a list are also gathered, each under its label
+-- contexted patches of a list are gathered too, each under its label, unless there is one already
 abbrev pub AllSeenToo : List Named → List ContextedPatch → ContextedPatches → ContextedPatches → Type 0
 AllSeenToo undone told was seen = (key : Key) → SeenToo undone (get was key) (first_with_key key told) (get seen key)
 
--- a contexted patch is appended to changes (true), or they stay as they are
+-- true: a contexted patch is appended to changes; false: the changes stay as they are
 abbrev pub AppendsIf : Bool → List Named → ContextedPatch → List Named → Type 0
 AppendsIf true changes x next = AppendsNew changes x next
 AppendsIf false changes x next = next ≡ changes
 
--- a contexted patch is appended to changes if it belongs to the patch of a name
+-- a contexted patch is appended to changes if its name is this one
 abbrev pub ComesIfNamed : List Named → List ℕ → ContextedPatch → List Named → Type 0
 ComesIfNamed changes name x next = AppendsIf (bytes_eq name x.patch.name) changes x next

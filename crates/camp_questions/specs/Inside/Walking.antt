@@ -1,4 +1,4 @@
--- The state of an annotation along effects, and the effects to which it applies.
+-- The state of an annotation after some effects, and the effects that may come next.
 use Rattle.std.specs.Prelude.{◌≡◌, ◌≤◌, ℕ, ◌+◌, ◌-◌, List, [], length, Option, None, Some}
 use Rattle.std.specs.BTreeMap.{BTreeMap}
 use Rattle.std.specs.FinMap.{FinMap, from_entries, get}
@@ -21,7 +21,7 @@ kept_in taken = from_entries taken.entries
 abbrev pub known_in : Walk → Known
 known_in walk = record { names = walk.names; taken = kept_in walk.taken }
 
--- the lines that a hunk removes are among those with names
+-- the old lines of a hunk are lines of the file, which have names
 abbrev pub LiesWithin : Edit → Known → Type 0
 LiesWithin hunk known = hunk.line - 1 + length hunk.old ≤ length known.names
 
@@ -30,15 +30,15 @@ abbrev pub lines_or_none : Option Lines → Lines
 lines_or_none None = []
 lines_or_none (Some lines) = lines
 
--- as many names are known as a path has lines in a tree
+-- the state has a name for each line that a path has in a tree
 abbrev pub AreKnownIn : List ℕ → Files → Known → Type 0
 AreKnownIn path tree known = length known.names ≡ length (lines_or_none (get tree path))
 
--- a primitive applies to a tree whose lines have names
+-- a primitive applies to a tree, for each line of whose file the state has a name
 abbrev pub AppliesOn : List ℕ → Primitive → Known → Type 0
 AppliesOn path p known = (old : Files) × (new : Files) × Applies p old new × AreKnownIn path old known
 
--- an effect applies to a tree whose lines have names
+-- an effect applies to a tree, for each line of whose file the state has a name
 abbrev pub FollowsOn : List ℕ → List Named → Known → Type 0
 FollowsOn path effect known =
     (old : Files) × (new : Files) × AppliesAll effect old new × AreKnownIn path old known

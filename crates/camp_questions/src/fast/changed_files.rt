@@ -1,4 +1,4 @@
-//! The files that catches change, as small hash numbers of their paths.
+//! The files that catches change, as small hashes of their paths.
 ghost use Rattle.std.specs.Prelude.{◌≡◌, ◌<◌, map, length, IfOk};
 ghost use Rattle.std.specs.List.{AllByRecursion, list_any};
 ghost use Rattle.camp_questions.specs.Inside.ChangedFiles.{AreFilesOf, AreMarkedToo, file_number, is_marked, number_of};
@@ -9,17 +9,16 @@ use camp_catch::Catch;
 use camp_share::Shared;
 use std::alloc::{AllocError, Global};
 
-/// The number of different hash numbers. Two files with the same number count as one, which only costs a
-/// slower check.
+/// The number of possible hashes. Two files with the same hash count as one, which only costs a slower check.
 pub(crate) const NUMBERS: usize = 4093;
 
-/// The files that a patch changes: the hash number of one for each of its catches.
+/// The files that a patch changes: for each of its catches the hash of the path.
 #[derive(Drop)]
 pub(crate) struct PatchFiles {
     pub numbers: Vec<usize>,
 }
 
-/// Returns the files that each of some patches changes.
+/// Returns for each of some patches the hashes of the files that it changes.
 pub(crate) fn files_of(
     alloc: Global,
     patches: &[PatchCatches],
@@ -44,7 +43,7 @@ fn numbers_of(alloc: Global, catches: &[Shared<Catch>]) -> Result<Vec<usize>, Al
     Ok(numbers)
 }
 
-/// Returns the hash number of the file that a plain catch changes.
+/// Returns the hash of the path that a plain catch changes.
 fn number_of(catch: &Catch) -> usize
     ensures { result ≡ number_of catch.now }
 {
@@ -54,7 +53,7 @@ fn number_of(catch: &Catch) -> usize
     }
 }
 
-/// Returns the hash number of a path.
+/// Returns the hash of a path.
 fn file_number(path: &Path) -> usize
     ensures { result ≡ file_number path.now }
 {
@@ -66,7 +65,7 @@ fn file_number(path: &Path) -> usize
     number
 }
 
-/// True if one of these numbers is marked.
+/// True if one of these hashes is marked.
 pub(crate) fn is_any_marked(marks: &[bool], numbers: &[usize]) -> bool
     ensures { result ≡ list_any (is_marked marks.now) numbers.now }
 {
@@ -79,7 +78,7 @@ fn is_marked(marks: &[bool], number: usize) -> bool
     number < marks.len() && marks[number]
 }
 
-/// Marks these numbers too.
+/// Marks these hashes too.
 pub(crate) fn mark_numbers(marks: &mut [bool], numbers: &[usize])
     requires { AllByRecursion (λ number. number < length marks.old) numbers.now }
     ensures { AreMarkedToo marks.old numbers.now marks.new }

@@ -1,4 +1,4 @@
-//! Catches that are to be taken out, and the patches before them.
+//! The catches that are to be taken out.
 ghost use Rattle.std.specs.Prelude.{◌≡◌, ◌++◌, IfOk, OnOk};
 ghost use Rattle.camp_questions.specs.Inside.ByPatch.{AreApart, AreOfPatch};
 ghost use Rattle.camp_questions.specs.Inside.ChangedFiles.{GoMarked, HasFiles};
@@ -11,8 +11,7 @@ use camp_catch::Catch;
 use camp_share::Shared;
 use std::alloc::{AllocError, Global};
 
-/// Plain catches that are to be taken out, and the files that they change: for each hash number, whether one
-/// of them has it.
+/// Plain catches that are to be taken out, and which files they change: a mark for each hash of their paths.
 #[derive(Drop)]
 pub(crate) struct Going {
     pub catches: Vec<Shared<Catch>>,
@@ -53,9 +52,9 @@ pub(crate) fn go_too(
     Ok(())
 }
 
-/// Moves a patch, which comes after these catches, in front of all of them; true if it can be moved. They are
-/// then what they become, else unchanged. A patch that changes none of their files is moved without a
-/// commute.
+/// Moves a patch, which comes after these catches, in front of all of them, and updates them to what they then become.
+/// False if it can't be moved; they are then unchanged. A patch that changes none of their files is moved without
+/// commuting.
 pub(crate) fn comes_before(
     alloc: Global,
     going: &mut Going,

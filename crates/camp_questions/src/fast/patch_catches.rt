@@ -35,7 +35,7 @@ pub(crate) fn by_patch(
     Ok(patches)
 }
 
-/// Returns the index after the last catch of the patch whose first is at `start`.
+/// Returns the index after the last catch of the patch whose first catch is at `start`.
 fn end_of_patch(list: &[Shared<Catch>], start: usize) -> usize
     requires { start < length list.now }
     ensures exact { result ≡ start + 1 + until_next (drop (start + 1) list.now) }
@@ -49,7 +49,7 @@ fn end_of_patch(list: &[Shared<Catch>], start: usize) -> usize
     list.len()
 }
 
-/// Copies a list, which shares its catches with the copy.
+/// Copies a list of patches, which share their catches with the copy.
 pub(crate) fn shared(
     alloc: Global,
     list: &[Shared<Catch>],

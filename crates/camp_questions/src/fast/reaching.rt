@@ -1,5 +1,4 @@
-//! The dependencies of each patch, by a walk back from it that stops once all earlier patches are
-//! dependencies.
+//! The dependencies of each patch, found by a walk back from it, which stops when all earlier patches are dependencies.
 ghost use Rattle.std.specs.Prelude.{◌≡◌, ◌<◌, ◌≤◌, List, length, IfOk};
 ghost use Rattle.camp_catch.specs.declared.catches.Catch.{Catch as AnyCatch};
 ghost use Rattle.camp_questions.specs.Inside.ByPatch.{names_in_order};
@@ -32,8 +31,7 @@ pub(crate) fn all_reached(
     Ok(all)
 }
 
-/// Returns the dependencies of the next patch, given those of the patches before it. Walks back over the
-/// patches before it until all of them are dependencies.
+/// Returns the dependencies of the next patch, given those of the patches before it.
 fn reached(
     alloc: Global,
     patches: &[PatchCatches],
@@ -68,7 +66,7 @@ fn reached(
     Ok(marks)
 }
 
-/// Returns the first index from `from` on that is not marked. All below `from` are.
+/// Returns the first index from `from` on that is not marked; all indexes below `from` are marked.
 fn first_unmarked(marks: &[bool], from: usize) -> usize
     requires { AreMarkedBelow marks.now from }
     ensures { AreMarkedBelow marks.now result }
@@ -81,7 +79,7 @@ fn first_unmarked(marks: &[bool], from: usize) -> usize
     marks.len()
 }
 
-/// Also marks the indexes that are marked in another list.
+/// Marks all indexes that are marked in another list.
 fn mark_all(marks: &mut [bool], more: &[bool])
     requires { length more.now ≤ length marks.old }
     ensures { marks.new ≡ marked_in_both marks.old more.now }

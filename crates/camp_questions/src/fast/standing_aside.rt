@@ -1,5 +1,5 @@
-//! One pass over the patches of a list: a patch that can be moved in front of all that are to be taken out
-//! stays, and any other is to be taken out too.
+//! Dependents in one pass over the patches of a list: a patch stays if it can be moved in front of all that are to be
+//! taken out; any other has to be taken out too.
 ghost use Rattle.std.specs.Prelude.{◌≡◌, ℕ, List, [], ◌∷◌, IfOk, IsTrue};
 ghost use Rattle.std.specs.Result.{MatchResult};
 ghost use Rattle.camp_branch.specs.Fields.{names_in};
@@ -32,8 +32,7 @@ pub(crate) fn held_in(
     walk_over(alloc, patches, names, &mut going)
 }
 
-/// Returns these names with those of all patches that have to be taken out with them. Begins with nothing to
-/// take out.
+/// Returns these names and those of all patches that have to be taken out with them.
 fn walk_over(
     alloc: Global,
     patches: &[PatchCatches],
@@ -57,9 +56,9 @@ fn walk_over(
     Ok(held)
 }
 
-/// Moves a patch, which comes after catches that are to be taken out, in front of all of them; true if it can
-/// be moved. They are then what they become, else unchanged. Two quick checks come first: its catches commute
-/// unchanged, or its neighbour blocks it; otherwise its catches are arranged.
+/// Moves a patch, which comes after catches that are to be taken out, in front of all of them, and updates them to what
+/// they then become. False if it can't be moved; they are then unchanged. Two quick checks come first: whether its
+/// catches commute unchanged, and whether its neighbour blocks it.
 pub(crate) fn stand_aside(
     alloc: Global,
     going: &mut Vec<Shared<Catch>>,
@@ -85,8 +84,8 @@ pub(crate) fn stand_aside(
     }
 }
 
-/// Commutes the catches of a patch in front of those that are to be taken out, and returns both. Blocked if
-/// one of them cannot be moved.
+/// Commutes the catches of a patch in front of those that are to be taken out. Returns both as they then are. Blocked
+/// if one of them cannot be moved.
 fn arranged_behind(
     alloc: Global,
     going: &[Shared<Catch>],

@@ -1,4 +1,4 @@
-//! Plain patches, inverted.
+//! The inverses of plain patches.
 ghost use Rattle.std.specs.Prelude.{List, IfOk, IfSome, IsTrue};
 ghost use Rattle.camp_branch.specs.Branches.{HasPatches, Patch};
 ghost use Rattle.camp_questions.specs.Inside.Graphing.{IsInverted};
@@ -10,8 +10,8 @@ use camp_seq::{Seq, has_room, invert_all};
 use camp_share::Shared;
 use std::alloc::{AllocError, Global};
 
-/// Groups the catches of a list by patch, the last first, and inverts their changes. `None` if one is in
-/// conflict, or headroom is not certain.
+/// Groups the catches of a list by patch, and inverts the patches, the last first. `None` if a catch is in conflict or
+/// the quick check finds no headroom.
 pub(crate) fn taken_back(
     alloc: Global,
     list: &[Shared<Catch>],
@@ -37,7 +37,7 @@ pub(crate) fn taken_back(
     Ok(Some(back))
 }
 
-/// True only if all catches are plain and certainly have headroom, also inverted.
+/// True only if all catches are plain, and they and their inverses have headroom.
 fn have_room(alloc: Global, list: &[Shared<Catch>]) -> Result<bool, AllocError>
     ensures { IfOk result (λ yes. IsTrue yes → HaveRoom list.now) }
 {
@@ -55,7 +55,7 @@ fn have_room(alloc: Global, list: &[Shared<Catch>]) -> Result<bool, AllocError>
     Ok(has_room(&back))
 }
 
-/// Returns the inverses of plain catches, the last first; `None` if one is in conflict.
+/// Returns the inverses of plain catches, in reverse order; `None` if one is in conflict.
 fn inverses(
     alloc: Global,
     catches: &[Shared<Catch>],

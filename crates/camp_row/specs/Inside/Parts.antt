@@ -1,4 +1,4 @@
--- What one seat knows of the row, for the invariant of the table: a `Part`. A view of the table is a list of them.
+-- What one seat knows of the row, as a `Part` for the invariant of the table. A view of the table is a list of parts.
 use Rattle.std.specs.Prelude.{◌≡◌, ℕ, List, [], slice_index_or, map, count_by, ◌==◌}
 use Rattle.std.specs.List.{range_with_len}
 use Rattle.atomic_table.specs.Seated.{TableId}
@@ -26,7 +26,7 @@ fresh seats per_seat number =
 abbrev pub all_fresh : ℕ → ℕ → List Part
 all_fresh seats per_seat = map (fresh seats per_seat) (range_with_len 0 seats)
 
--- what the seat knows in a view of one seat
+-- the part of a seat in a view of that seat alone
 abbrev pub part_of : List Part → Part
 part_of parts = slice_index_or parts 0 (fresh 0 0 0)
 
@@ -34,7 +34,7 @@ part_of parts = slice_index_or parts 0 (fresh 0 0 0)
 abbrev pub parts_of : ℕ → List Part → ℕ
 parts_of number parts = count_by (λ (part : Part). part.number == number) parts
 
--- what the pass of this seat knows of the row in this table
+-- in this table, the pass of a seat has this part of the row
 abbrev pub known_of : TableId → Part → PassState
 known_of table part = record {
   row = record { table = table; seats = part.seats; per_seat = part.per_seat };
@@ -45,12 +45,12 @@ known_of table part = record {
   index = part.index;
 }
 
--- what the seat knows after it found this chain
+-- the part of a seat after it found this chain
 abbrev pub finds : List Entry → Part → Part
 finds chain part = record part { ahead = chain }
 
--- the seat has seen a prefix of the chain that it found, with all its own_entries entries in the chain; and the chain fits the
--- row
+-- the invariant of a part: the seat has seen a prefix of the chain that it found; all its own entries in that chain,
+-- `own_entries` of them, are in the prefix; and the chain fits the row
 pub record IsSoundPart (part : Part) : Type 0 where
   pub prefix : IsPrefix part.seen part.ahead
   pub own_seen : own_entries part.number part.ahead ≡ own_entries part.number part.seen

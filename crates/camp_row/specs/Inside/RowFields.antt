@@ -1,4 +1,4 @@
--- A row and its fields.
+-- A row in its fields.
 use Rattle.std.specs.Prelude.{◌≡◌, ◌+◌, ◌*◌, ◌<◌, ◌≤◌}
 use Rattle.camp_row.specs.PassState.{RowId, most_cells, most_seats}
 use Rattle.camp_row.specs.declared.rows.Row.TheInside.{Inside}
@@ -6,7 +6,7 @@ use Rattle.camp_row.specs.declared.rows.Row.TheInside.{Inside}
 abbrev pub id_of : Inside → RowId
 id_of row = record { table = row.table.shared.table_id; seats = row.seats; per_seat = row.per_seat }
 
--- the table keeps the invariant of a row of these sizes, and has the words for it
+-- the invariant of a row: its table keeps the invariant of rows of these sizes, and has the words for it
 pub record IsRow (row : Inside) : Type 0 where
   pub words : row.table.shared.table_id.words ≡ 1 + 2 * (row.per_seat * row.seats)
   pub slots : row.table.shared.table_id.slots ≡ 0

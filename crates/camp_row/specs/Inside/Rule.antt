@@ -1,4 +1,4 @@
--- The invariant of the row: it holds of its words and of what all seats know, after every step.
+-- The invariant of the row, which holds after every step of its words and of what all seats know.
 use Rattle.std.specs.Prelude.{◌≡◌, ℕ, ◌+◌, ◌*◌, ◌<◌, ◌≤◌, List, ◌∷◌, ◌++◌, length, slice_index, sum_by, All}
 use mathlib.Core.Option.{some}
 use lib.ListN.{get_elem?}
@@ -7,7 +7,7 @@ use Rattle.camp_row.specs.declared.knowledge.Knowledge.{Knowledge}
 use Rattle.camp_row.specs.Chains.{IsPrefix, own_entries, entry_count, cell_of, head_word, FitsRow}
 use Rattle.camp_row.specs.Inside.Parts.{Part, parts_of}
 
--- word 0 is the head; the first word of each cell names its parent, the second is the index of its entry
+-- word 0 is the head; of the two words of a cell the first names its parent, and the second is the index of its entry
 abbrev pub parent_word : ℕ → ℕ
 parent_word cell = 1 + 2 * cell
 
@@ -25,7 +25,8 @@ IsLinked seats words chain =
     (before : List Entry) (entry : Entry) (after : List Entry) → before ++ entry ∷ after ≡ chain
     → HasCell words (cell_of seats before entry) (head_word seats before) entry.index
 
--- the invariant for one seat: it has seen its own_entries entries, its next cell has its draft, and its later cells are empty
+-- what holds of one seat: it has seen its own entries, `own_entries` of them; its next cell has its draft, and its
+-- later cells are empty
 pub record Knows (seats per_seat : ℕ) (words : List ℕ) (chain : List Entry) (part : Part) : Type 0 where
   pub sizes : (part.seats ≡ seats) × (part.per_seat ≡ per_seat) × (part.number < seats)
   pub seen : IsPrefix part.seen chain
@@ -38,7 +39,8 @@ pub record Knows (seats per_seat : ℕ) (words : List ℕ) (chain : List Entry) 
       (nth : ℕ) → entry_count part.number part.seen < nth → nth < per_seat
       → HasCell words (nth * seats + part.number) 0 0
 
--- the words of the head and the cells name a chain; each seat is in the views at most once, and knows a prefix of it
+-- the words of the head and of the cells represent a chain; each seat has at most one part in the views, and knows a
+-- prefix of that chain
 pub record IsRuled (seats per_seat : ℕ) (words : List ℕ) (views : List Knowledge) : Type 0 where
   pub chain : List Entry
   pub sized : length words ≡ 1 + 2 * (per_seat * seats)

@@ -17,40 +17,40 @@ use Rattle.camp_script.specs.declared.faults.ScriptFault.{ScriptFault}
 use Rattle.camp_script.specs.declared.groups.ParsedGroupLine.{ParsedGroupLine}
 use Rattle.camp_script.specs.declared.groups.ParsedGroupLine.TheVariants as told
 
--- the command that the reader represents
+-- the command of the definitions that a parsed one represents
 abbrev pub command_parsed : ParsedLine → Command
 command_parsed (asked.Call new) = Ask new
 command_parsed (asked.Edit branch name path line) = BeginEdit branch name path line
 command_parsed (asked.Group branch name) = BeginGroup branch name
 command_parsed asked.Section = BeginSection
 
--- the line of an edit is counted from 1
+-- the line of an edit is at least 1
 abbrev pub EditLineIsCounted : ParsedLine → Type 0
 EditLineIsCounted (asked.Edit branch name path line) = 1 ≤ line
 EditLineIsCounted other = Unit {0}
 
--- the result is the meaning of a numbered line, or its fault; memory runs out only if there is no fault
+-- the result is the meaning of a line or its fault; out of memory is allowed only if there is no fault
 abbrev pub ParsesLine : ℕ → Progress → Result ParsedLine ScriptFault → Result Command LineFault → Type 0
 ParsesLine number progress (Ok asked) reading = (reading ≡ Ok (command_parsed asked)) × EditLineIsCounted asked
 ParsesLine number progress (Err fault) reading = IsFaultFirst fault (after_parsed_command number progress reading)
 
--- the meaning of a line of a group that the reader represents
+-- the meaning of a line of a group that a parsed one represents
 abbrev pub group_line_parsed : ParsedGroupLine → GroupLine
 group_line_parsed (told.Change change) = WholeChange change
 group_line_parsed (told.Edit path line) = EditChange path line
 group_line_parsed told.Done = EndGroup
 
--- a group with this number of changes has room for this one, and the line of an edit is counted from 1
+-- a group with `count` changes may have this one too, and the line of an edit is at least 1
 abbrev pub HasRoomForChange : ℕ → ParsedGroupLine → Type 0
 HasRoomForChange count (told.Change change) = count < most_changes
 HasRoomForChange count (told.Edit path line) = (1 ≤ line) × (count < most_changes)
 HasRoomForChange count told.Done = Unit {0}
 
--- the result is the meaning of a line of a group, or its fault; memory runs out only if there is no fault
+-- the result is the meaning of a line of a group or its fault; out of memory is allowed only if there is no fault
 abbrev pub ParsesGroupLine : ℕ → Progress → OpenRecord → Result ParsedGroupLine ScriptFault → Result GroupLine LineFault → Type 0
 ParsesGroupLine number progress begun (Ok told) reading = (reading ≡ Ok (group_line_parsed told)) × HasRoomForChange (length begun.changes) told
 ParsesGroupLine number progress begun (Err fault) reading = IsFaultFirst fault (after_parsed_group_line number progress begun reading)
 
--- the change of an edit whose `end` is on a line
+-- the change of an edit that ends at this line
 abbrev pub ended_change : ℕ → Edit → Result Primitive LineFault
 ended_change line edit = ended_edit line edit >>= λ edit. Ok (Hunk edit)

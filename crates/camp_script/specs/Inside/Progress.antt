@@ -28,21 +28,21 @@ pub record OpenRecord : Type 0 where
   pub changes : List Primitive
   pub open_edit : Option OpenEdit
 
--- the progress of a script: the sections before this one, the calls of this one, and the record that has not ended
+-- the progress of a script: the sections before this one, the calls of this one, and the open record, if any
 pub record Progress : Type 0 where
   pub closed : List (List Call)
   pub calls : List Call
   pub open_record : Option OpenRecord
 
--- at first: the opening has begun
+-- the initial progress: the opening has begun, without a call
 abbrev pub start : Progress
 start = record { closed = []; calls = []; open_record = None }
 
--- the section with one more call, and no record open
+-- the progress with one more call, and no record open
 abbrev pub with_call : Progress → Call → Progress
 with_call progress new = record progress { calls = progress.calls ++ new ∷ []; open_record = None }
 
--- the section with this record open
+-- the progress with this record open
 abbrev pub with_record : Progress → OpenRecord → Progress
 with_record progress begun = record progress { open_record = Some begun }
 
@@ -51,11 +51,11 @@ abbrev pub record_at : ℕ → List ℕ → List ℕ → Bool → OpenRecord
 record_at line branch name grouped =
     record { branch = branch; name = name; opened = line; grouped = grouped; changes = []; open_edit = None }
 
--- a record with this edit so far
+-- a record with this edit open
 abbrev pub with_open_edit : OpenRecord → OpenEdit → OpenRecord
 with_open_edit begun edit = record begun { open_edit = Some edit }
 
--- a record with the head of an edit that begins at a line, whose body follows
+-- a record with an edit that begins at this line of the script, whose body follows
 abbrev pub with_edit : OpenRecord → List ℕ → ℕ → ℕ → OpenRecord
 with_edit begun path place line =
     with_open_edit begun (record { opened = line; edit = record { path = path; line = place; old = []; new = [] } })
@@ -64,40 +64,40 @@ with_edit begun path place line =
 abbrev pub with_one_more : OpenRecord → Primitive → OpenRecord
 with_one_more begun change = record begun { changes = begun.changes ++ change ∷ []; open_edit = None }
 
--- after a call that is on a single line
+-- the progress after a call on a single line; a fault if the section is full
 abbrev pub after_call : ℕ → Progress → Call → Result Progress LineFault
 after_call line progress new =
     if is_writing new && is_full progress.calls then fault_at line TooManyCommands else Ok (with_call progress new)
 
--- after the head of a record whose changes follow
+-- the progress after the first line of a record whose changes follow; a fault if the section is full
 abbrev pub after_head : ℕ → Progress → OpenRecord → Result Progress LineFault
 after_head line progress begun =
     if is_full progress.calls then fault_at line TooManyCommands else Ok (with_record progress begun)
 
--- after the line of a client: the next section begins
+-- the progress after a line `client`: the next section begins
 abbrev pub after_client : ℕ → Progress → Result Progress LineFault
 after_client line progress =
     if nat_le most_clients (length progress.closed) then fault_at line TooManyClients
     else Ok (record { closed = progress.closed ++ progress.calls ∷ []; calls = []; open_record = None })
 
--- after the last line of a record
+-- the progress after the last line of a record; a fault if the record has no change
 abbrev pub after_record : ℕ → Progress → OpenRecord → Result Progress LineFault
 after_record line progress begun =
     if length begun.changes == 0 then fault_at line BadGroup
     else Ok (with_call progress (call.Record begun.branch begun.name begun.changes))
 
--- after a change whose last line this is: a group continues, and a single change ends its record
+-- the progress after the last line of a change: a group continues, and a single change ends its record
 abbrev pub after_change : ℕ → Progress → OpenRecord → Primitive → Result Progress LineFault
 after_change line progress begun change =
     if begun.grouped then Ok (with_record progress (with_one_more begun change))
     else after_record line progress (with_one_more begun change)
 
--- at the end of the script: no edit is open, and then no group
+-- the fault of a script that ends within a record: its edit or, if none is open, its group has not ended
 abbrev pub not_ended : {A : Type 0} → OpenRecord → Option OpenEdit → Result A LineFault
 not_ended begun None = fault_at begun.opened GroupNotEnded
 not_ended begun (Some edit) = fault_at edit.opened EditNotEnded
 
--- the sections at the end of the script
+-- the sections of a script that ends here, or the fault if a record is open
 abbrev pub finished : Progress → Option OpenRecord → Result (List (List Call)) LineFault
 finished progress None = Ok (progress.closed ++ progress.calls ∷ [])
 finished progress (Some begun) = not_ended begun begun.open_edit

@@ -16,15 +16,15 @@ use Rattle.camp_script.specs.declared.records.OpenEdit.{OpenEdit}
 use Rattle.camp_script.specs.declared.records.OpenRecord.{OpenRecord}
 use Rattle.camp_script.specs.declared.readings.Reading.TheInside.{Inside}
 
--- an edit with its sides so far
+-- the edit that the fields represent, with the lines read so far
 abbrev pub edit_so_far : OpenEdit → Edit
 edit_so_far edit = record { path = edit.path; line = edit.line; old = edit.old.items; new = edit.new.items }
 
--- the edit whose body has not ended
+-- the open edit that the fields represent
 abbrev pub open_edit_of : OpenEdit → progress.OpenEdit
 open_edit_of edit = record { opened = edit.opened; edit = edit_so_far edit }
 
--- the record that has not ended
+-- the open record that the fields represent
 abbrev pub open_record_of : OpenRecord → progress.OpenRecord
 open_record_of begun = record {
   branch = begun.branch;
@@ -51,26 +51,27 @@ progress_of reading = record {
 abbrev pub MayGrow : List Call → Type 0
 MayGrow calls = count_by is_writing calls < most_writing_calls
 
--- an edit has a line, counted from 1, and the record can have one more change
+-- an open edit has a line of at least 1, and its record may have one more change
 abbrev pub HasRoomFor : List Primitive → Option OpenEdit → Type 0
 HasRoomFor changes None = Unit {0}
 HasRoomFor changes (Some edit) = (1 ≤ edit.line) × (length changes < most_changes)
 
--- an open record can have its changes, and its section can have its call
+-- an open record may have its changes, and its section may have its call
 abbrev pub IsOpen : List Call → OpenRecord → Type 0
 IsOpen calls begun = MayGrow calls × (length begun.changes.items ≤ most_changes) × HasRoomFor begun.changes.items begun.open_edit
 
--- the same if a record is open
+-- the same of the open record, if there is one
 abbrev pub IsAwaited : List Call → Option OpenRecord → Type 0
 IsAwaited calls None = Unit {0}
 IsAwaited calls (Some begun) = IsOpen calls begun
 
--- finished sections: each has at most its most writing calls, and one more section can follow
+-- each finished section is within the limit of writing calls, and one more section may follow
 pub record AreClosed (sections : List (List Call)) : Type 0 where
   pub few : length sections ≤ most_clients
   pub writes : AllByRecursion (λ section. count_by is_writing section ≤ most_writing_calls) sections
 
--- the number of writing calls is counted and within the limit
+-- the invariant of a reader: finished sections are within the limits, `writes` counts the writing calls of this
+-- section, and an open record may be completed
 pub record SectionsAreCounted (reading : Inside) : Type 0 where
   pub closed : AreClosed (map (λ section. section.items) reading.closed.items)
   pub writes : reading.writes ≡ count_by is_writing reading.calls.items

@@ -13,7 +13,7 @@ abbrev pub patch_text : List Primitive → List ℕ
 patch_text (change ∷ []) = canonical_change change
 patch_text changes = line_text (codes "group" ∷ []) ++ flat_map canonical_change changes ++ line_text (codes "done" ∷ [])
 
--- a script can contain a call that is no record, unless it has an empty list of names
+-- a call that is no record can be in a script unless it has an empty list of names
 abbrev pub CanStandOnLine : Call → Type 0
 CanStandOnLine (call.Record branch name changes) = Unit {0}
 CanStandOnLine other = CanStand other

@@ -12,16 +12,16 @@ Precedes [] p p' s' = (p' ≡ p) × (s' ≡ [])
 Precedes (q ∷ s) p p' s' =
     (coming : Named) × (q' : Named) × (t : List Named) × Precedes s p coming t × Commute q coming p' q' × (s' ≡ q' ∷ t)
 
--- `Precedes` for a list and a primitive that are changed in place
+-- `Precedes` in place: the list and the primitive before, and what they become
 abbrev pub PrecedesInPlace : List Named × Named → List Named × Named → Type 0
 PrecedesInPlace old new = Precedes old.0 old.1 new.1 new.0
 
--- p, the element after a and then s, cannot be commuted to the left past any element of a
+-- p, which comes after a and then s, is blocked: it cannot be commuted past any element of a
 abbrev pub IsHeld : List Named → List Named → Named → Type 0
 IsHeld [] s p = Unit {0}
 IsHeld (y ∷ a) s p = ((p' : Named) (t : List Named) → ¬ (Precedes (y ∷ (a ++ s)) p p' t)) × IsHeld a s p
 
--- p0, which stood after s0, was commuted to the left in place and was blocked at the index `at`; it is now p
+-- p0, which came after s0, was commuted in place to the left and was blocked at index `at`; p is what it has become
 pub record ComesUpTo (s0 : List Named) (p0 : Named) (at : ℕ) (s : List Named) (p : Named) : Type 0 where
   pub bound : at ≤ length s0
   pub long : length s ≡ length s0
@@ -29,7 +29,7 @@ pub record ComesUpTo (s0 : List Named) (p0 : Named) (at : ℕ) (s : List Named) 
   pub came : Precedes (drop at s0) p0 p (drop at s)
   pub held : IsHeld (take at s0) (drop at s0) p0
 
--- p0, which stood before s0, was commuted to the right in place and was blocked at the index `at`; it is now p
+-- p0, which came before s0, was commuted in place to the right and was blocked at index `at`; p is what it has become
 pub record GoesPast (s0 : List Named) (p0 : Named) (at : ℕ) (s : List Named) (p : Named) : Type 0 where
   pub bound : at ≤ length s0
   pub long : length s ≡ length s0
@@ -55,17 +55,17 @@ pub record FirstWith (label : Label) (s : List Named) (at : ℕ) : Type 0 where
   pub labelled : label_of first ≡ label
   pub lacks : Lacks label before
 
--- the first element with this label is commuted to the front
+-- the first element with this label is commuted to the front, in place
 abbrev pub FrontsInPlace : Label → List Named → List Named → Type 0
 FrontsInPlace label s t = (y : Named) × (rest : List Named) × Fronts label s y rest × (t ≡ y ∷ rest)
 
--- the first element is commuted past the others
+-- the first element is commuted past all others, in place
 abbrev pub FirstPasses : List Named → List Named → Type 0
 FirstPasses [] t = ⊥
 FirstPasses (p ∷ s) t = (s' : List Named) × (p' : Named) × Passes p s s' p' × (t ≡ s' ++ p' ∷ [])
 
--- from the index `at` on the list is reordered: first the `count` elements with these labels, then the others; before
--- `at` it is unchanged
+-- the elements from index `at` on are reordered: the `count` elements with these labels come first, then the others;
+-- before `at` the list is unchanged
 pub record PartsFrom (labels : List Label) (s : List Named) (at count : ℕ) (now : List Named) : Type 0 where
   pub named : List Named
   pub others : List Named
@@ -74,7 +74,7 @@ pub record PartsFrom (labels : List Label) (s : List Named) (at count : ℕ) (no
   pub counted : length named ≡ count
   pub waiting : take at now ≡ take at s
 
--- `count` elements have these labels, and are commuted to the front
+-- the elements with these labels, `count` in number, are commuted to the front, in place
 abbrev pub PartsInPlace : List Label → List Named → ℕ → List Named → Type 0
 PartsInPlace labels s count t =
     (named : List Named) × (others : List Named) × Parts labels s named others

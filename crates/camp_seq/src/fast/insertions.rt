@@ -9,8 +9,8 @@ ghost use Rattle.camp_seq.specs.Room.{HasRoom};
 use crate::passes::come_forward;
 use camp_prim::{Named, commute_in_place, has_less_label};
 
-/// Puts a list with headroom in normal order: inserts one element after the other among those before it. n
-/// elements take at most n * (n - 1) commuting steps.
+/// Puts a list with headroom in normal order, by inserting each of its n elements among those before it. Takes at
+/// most n * (n - 1) commuting steps.
 pub(crate) fn order_by_insertion(items: &mut [Named])
     requires { HasRoom items.old }
     ensures { Norm items.old items.new }
@@ -34,8 +34,8 @@ fn place_last(items: &mut [Named])
     items[at..].rotate_right(1);
 }
 
-/// Commutes `x`, which is after `s`, to its position among the elements of `s`, in place. Returns the number
-/// of elements of `s` before it.
+/// Commutes `x`, which comes after `s`, to its position in normal order among the elements of `s`, in place. Returns
+/// the number of elements of `s` that then come before `x`.
 fn find_place(s: &mut [Named], x: &mut Named) -> usize
     requires room { HasRoom (s.old ++ x.old ∷ []) }
     requires own { Norm s.old s.old }
@@ -46,9 +46,9 @@ fn find_place(s: &mut [Named], x: &mut Named) -> usize
     from + at
 }
 
-/// Commutes `a`, which is before `s`, to the right past elements with lesser labels, as far as it can be
-/// moved, in place. Returns the number of elements of `s` before it. If it can pass all of `s`, the elements
-/// after it are unchanged.
+/// Commutes `a`, which comes before `s`, to the right past elements with lesser labels, as far as it can be moved, in
+/// place. Returns the number of elements of `s` that then come before `a`. If `a` can pass all of `s`, those after it
+/// are unchanged.
 pub(crate) fn go_in(a: &mut Named, s: &mut [Named]) -> usize
     requires { Norm s.old s.old }
     ensures place { GoesIn s.old a.old result s.new a.new }

@@ -1,4 +1,4 @@
-//! Quick checks of what the definitions would give. They do not allocate.
+//! Quick checks of whether lists are in normal order, and of what stays unchanged. They do not allocate.
 ghost use Rattle.std.specs.Prelude.{◌<◌, List, [], ◌∷◌, ◌++◌, length, IfSome, IsTrue};
 ghost use Rattle.camp_prim.specs.Labels.{label_of};
 ghost use Rattle.camp_prim.specs.declared.named.Named.{Named};
@@ -11,9 +11,9 @@ ghost use Rattle.camp_seq.specs.Passing.{Passes};
 use crate::chains::can_commute;
 use camp_prim::{Named, has_less_label, stay};
 
-/// A quick check of normal order: true only if the label of each element is not less than any before it, or the
-/// element does not commute with the one before it. The list may be in normal order also if the check is false. Visits
-/// each element once; does not allocate.
+/// True only if the label of each element is not less than any label before it, or the element does not commute with
+/// the one before it; the list is then its own normal order. False decides nothing. Visits each element once; does not
+/// allocate.
 pub fn is_own_order(items: &[Named]) -> bool
     ensures sound { IsTrue result → Norm items.now items.now }
 {
@@ -23,7 +23,7 @@ pub fn is_own_order(items: &[Named]) -> bool
     greatest_in_order(items).is_some()
 }
 
-/// Makes the check of `is_own_order` for a list, and for the list followed by one more element.
+/// Makes the quick check of normal order for a list, and for the list followed by one more element.
 pub fn are_own_orders(items: &[Named], last: &Named) -> (bool, bool)
     ensures list { IsTrue result.0 → Norm items.now items.now }
     ensures with_last { IsTrue result.1 → Norm (items.now ++ last.now ∷ []) (items.now ++ last.now ∷ []) }
@@ -37,8 +37,8 @@ pub fn are_own_orders(items: &[Named], last: &Named) -> (bool, bool)
     }
 }
 
-/// `are_own_orders` for a list in which no two neighbours commute. If its last element does not commute with
-/// the added one, no other is visited.
+/// Makes the checks of `are_own_orders` for a list in which no two neighbours commute. If its last element does not
+/// commute with the added one, no other element is visited.
 pub fn are_own_orders_of_chain(items: &[Named], last: &Named) -> (bool, bool)
     requires { Chain items.now }
     ensures list { IsTrue result.0 → Norm items.now items.now }
@@ -66,8 +66,8 @@ fn greatest_in_order(items: &[Named]) -> Option<&Named>
     Some(greatest)
 }
 
-/// Returns `x` if its label is not less than that of `greatest`; else `greatest` if `x` does not commute with
-/// `last`, the element before it; else `None`.
+/// Checks one step of normal order: returns `x` if its label is not less than that of `greatest`; else `greatest` if
+/// `x` does not commute with `last`, the element before it; else `None`.
 fn greatest_with<'a>(greatest: &'a Named, last: &Named, x: &'a Named) -> Option<&'a Named>
     ensures { IfSome result (λ more. StaysLast (label_of greatest.now) last.now x.now (label_of more.now)) }
 {
@@ -80,10 +80,10 @@ fn greatest_with<'a>(greatest: &'a Named, last: &Named, x: &'a Named) -> Option<
     Some(greatest)
 }
 
-/// True only if a list in normal order stays so with `x` before it. There are three reasons why an element
-/// cannot be moved in front of `x`: a greater label before it, a neighbour before it with which it does not
-/// commute, or, before it or its own, a label that is not less than that of `x`. Checks that each element has
-/// one. False decides nothing.
+/// True only if a list in normal order stays in it with `x` inserted before it. An element cannot be moved in front of
+/// `x` if an element before it has a greater label, if it does not commute with the element before it, or if its label
+/// or one before it is not less than that of `x`. Checks that one of these holds for each element. False decides
+/// nothing.
 pub(crate) fn stays_first(x: &Named, s: &[Named]) -> bool
     requires { Norm s.now s.now }
     ensures { IsTrue result → Norm (x.now ∷ s.now) (x.now ∷ s.now) }
@@ -106,8 +106,8 @@ pub(crate) fn stays_first(x: &Named, s: &[Named]) -> bool
     true
 }
 
-/// Returns `greatest` if the label of `p` is less; else `p` if it does not commute with `last`, the element
-/// before it; else `None`.
+/// Checks one step of `stays_first`: returns `greatest` if the label of `p` is less; else `p` if it does not commute
+/// with `last`, the element before it; else `None`.
 fn greatest_behind<'a>(greatest: &'a Named, last: &Named, p: &'a Named) -> Option<&'a Named>
     ensures { IfSome result (λ more. StaysBehind (label_of greatest.now) last.now p.now (label_of more.now)) }
 {

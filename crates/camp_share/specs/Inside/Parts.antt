@@ -8,7 +8,7 @@ abbrev pub longest_part : ℕ
 longest_part = 24
 
 module _ {X Z : Type 0} where
-  -- the elements of all chunks in order
+  -- the elements of all chunks, in order
   abbrev pub joined : List (Vec X Z) → List X
   joined parts = flat_map (λ part. part.items) parts
 
@@ -16,12 +16,12 @@ module _ {X Z : Type 0} where
   abbrev pub IsPart : Vec X Z → Type 0
   IsPart part = (0 < length part.items) × (length part.items ≤ longest_part)
 
-  -- the index in the whole list of a position of a chunk
+  -- the index in the whole list of a position in a chunk
   abbrev pub offset : List (Vec X Z) → ℕ → ℕ → ℕ
   offset parts index place = length (joined (take index parts)) + place
 
-  -- a position of a chunk is at most its length; the position 0 of the chunk after the last one is the end of
-  -- the list
+  -- a position is at most the length of its chunk; position 0 of the chunk after the last one stands for the end of the
+  -- list
   abbrev pub IsPlace : List (Vec X Z) → ℕ → ℕ → Type 0
   IsPlace parts index place = (index ≤ length parts) × (offset parts index place ≤ length (joined (take (index + 1) parts)))
 

@@ -1,4 +1,4 @@
--- Where a key is, or would be inserted, in sorted entries.
+-- The positions of keys in sorted entries.
 use Rattle.std.specs.Prelude.{◌≡◌, ℕ, zero, suc, ◌+◌, ◌-◌, ◌<◌, ◌≤◌, Bool, false, List, [], ◌∷◌, Option, None, Some, length, slice_get, slice_index_or, take}
 use Rattle.std.specs.Ordering.{is_lt}
 use Rattle.std.specs.declared.cmp.Ordering.{Ordering}
@@ -6,14 +6,14 @@ use Rattle.std.specs.declared.cmp.Ordering.TheVariants.{Less}
 use Rattle.std.specs.declared.vec.Vec.{Vec}
 use Rattle.camp_share.specs.Inside.Parts.{joined, offset, IsPlace}
 
--- the entry at an index has the key
+-- the entry at this index has the key
 abbrev pub IsAt : {K X : Type 0} → List (K × X) → K → ℕ → Type 0
 IsAt [] key place = ⊥
 IsAt (entry ∷ rest) key zero = entry.0 ≡ key
 IsAt (entry ∷ rest) key (suc place) = IsAt rest key place
 
--- a key that is not in the list would be inserted at an index: it is above all keys before that index and below the key
--- at it
+-- the key is not in the list and would be inserted at this index: it is above all keys before the index, and below the
+-- key at it
 abbrev pub WouldBeAt : {K X : Type 0} → (K → K → Ordering) → List (K × X) → K → ℕ → Type 0
 WouldBeAt order [] key zero = Unit {0}
 WouldBeAt order [] key (suc place) = ⊥
@@ -25,7 +25,7 @@ abbrev pub IsAbove : {K X : Type 0} → (K → K → Ordering) → List (K × X)
 IsAbove order [] key = Unit {0}
 IsAbove order (entry ∷ rest) key = (order entry.0 key ≡ Less) × IsAbove order rest key
 
--- the entry at a position of a chunk has the key
+-- the entry at a position in a chunk has the key
 abbrev pub IsInPart : {K X Z : Type 0} → List (Vec (K × X) Z) → K → ℕ → ℕ → Type 0
 IsInPart {K} {X} {Z} parts key index place =
     (index < length parts)
@@ -33,7 +33,7 @@ IsInPart {K} {X} {Z} parts key index place =
     × IsAt (joined parts) key (offset parts index place)
     × IsPlace parts index (place + 1)
 
--- a key would be inserted at a position of a chunk
+-- the key would be inserted at a position in a chunk
 abbrev pub WouldBeInPart : {K X Z : Type 0} → (K → K → Ordering) → List (Vec (K × X) Z) → K → ℕ → ℕ → Type 0
 WouldBeInPart order parts key index place =
     IsPlace parts index place × WouldBeAt order (joined parts) key (offset parts index place)
@@ -47,15 +47,14 @@ passes test (Some x) = test x
 abbrev pub ends_below : {K X : Type 0} → (K → K → Ordering) → List (K × X) → K → Bool
 ends_below order entries key = passes (λ entry. is_lt (order entry.0 key)) (slice_get entries (length entries - 1))
 
--- the item before the index `low` is of the first kind, and the item at the index `high` of the second, where
--- there are such items
+-- the item before index `low`, if there is one, has the first property, and the item at index `high` the second
 abbrev pub IsBorder : {A : Type 0} → (A → Type 0) → (A → Type 0) → List A → ℕ → ℕ → Type 0
 IsBorder {A} Passed Stops items low high =
     ((item : A) → 0 < low → item ≡ slice_index_or items (low - 1) item → Passed item)
     × ((item : A) → high < length items → item ≡ slice_index_or items high item → Stops item)
 
--- the first chunk with a key that is not below `key`, and its index; no chunk, and their number, if all keys
--- are below
+-- the first chunk with a key that is not below `key`, and its index; or, if all keys are below, no chunk and the number
+-- of chunks
 pub record IsPartFor {K X Z : Type 0} (order : K → K → Ordering) (parts : List (Vec (K × X) Z)) (key : K) (index : ℕ)
     (part : Option (Vec (K × X) Z)) : Type 0 where
   pub within : index ≤ length parts

@@ -1,8 +1,8 @@
--- What a framing reads, and what was read ahead.
+-- What a framing has read, and what was read ahead.
 use Rattle.std.specs.Prelude.{◌≡◌, ℕ, List, ◌++◌}
 use Rattle.camp_talk.specs.Frames.{IsFrame}
 
--- a whole frame stands at the front of bytes
+-- bytes begin with a complete frame
 pub record BeginsWithFrame (bytes : List ℕ) : Type 0 where
   pub request : List ℕ
   pub frame : List ℕ
@@ -10,6 +10,6 @@ pub record BeginsWithFrame (bytes : List ℕ) : Type 0 where
   pub is : IsFrame request frame
   pub begins : bytes ≡ frame ++ more
 
--- bytes have grown
+-- bytes were appended
 abbrev pub IsPartOf : List ℕ → List ℕ → Type 0
 IsPartOf old new = (more : List ℕ) × (new ≡ old ++ more)

@@ -13,19 +13,19 @@ pub record Step (Q A : Type 0) : Type 0 where
   pub bytes : List ℕ
   pub response : A
 
--- a fact, if there are steps
+-- a fact holds unless a list of steps is empty
 abbrev pub IfSteps : {X : Type 0} → List X → Type 0 → Type 0
 IfSteps [] fact = Unit {0}
 IfSteps (step ∷ steps) fact = fact
 
--- there are steps
+-- a list of steps is not empty
 abbrev pub HasSteps : {X : Type 0} → List X → Type 0
 HasSteps [] = ⊥
 HasSteps (step ∷ steps) = Unit {0}
 
--- by the relations of a backend and of a framing
+-- given the relations of a backend and of a framing
 module _ {B F Q A E H : Type 0} (backend : backends.Ghosts B Q A E) (framing : framings.Ghosts F Q A H) where
-  -- a request was read, and executed with this result
+  -- a request was read, and then executed with this result
   pub record Executes (before : B) (from : F) (request : Q) (bytes : List ℕ) (result : Result A E) (after : B) (to : F) : Type 0 where
     pub reads : framing.reads from request bytes to
     pub consumes : Consumes (framing.remaining from) (framing.remaining to) bytes
@@ -35,15 +35,15 @@ module _ {B F Q A E H : Type 0} (backend : backends.Ghosts B Q A E) (framing : f
   abbrev pub responses : List (Step Q A) → List ℕ
   responses steps = flat_map (λ step. framing.renders step.response) steps
 
-  -- a group may take one more request, where these bytes are pending: a whole one was read ahead, and fewer calls wait
-  -- and fewer bytes are pending than the limits say
+  -- a group may take one more request while these bytes are pending: a complete one was read ahead, and the calls to
+  -- commit and the pending bytes are within the limits
   pub record MayGoOn (limits : GroupLimits) (it : B) (at : F) (pending : List ℕ) : Type 0 where
     pub ready : framing.ready at
     pub calls : backend.waiting it < limits.calls
     pub bytes : length pending < limits.bytes
 
-  -- requests were read and executed one after the other, where these bytes were pending; before each but the first the
-  -- group might go on
+  -- requests were read and executed one after the other, beginning with these pending bytes; before each but the first
+  -- the group could take one more
   abbrev pub ExecutesInOrder : GroupLimits → B → F → List ℕ → List (Step Q A) → B → F → Type 0
   ExecutesInOrder limits before from pending [] after to = (before ≡ after) × (from ≡ to)
   ExecutesInOrder limits before from pending (step ∷ steps) after to =
@@ -51,13 +51,13 @@ module _ {B F Q A E H : Type 0} (backend : backends.Ghosts B Q A E) (framing : f
       × IfSteps steps (MayGoOn limits next on (pending ++ framing.renders step.response))
       × ExecutesInOrder limits next on (pending ++ framing.renders step.response) steps after to
 
-  -- requests were read and executed, and this is what is written for their responses
+  -- requests were read and executed, and these bytes are written for their responses
   pub record Gathered (limits : GroupLimits) (before : B) (from : F) (after : B) (to : F) (text : List ℕ) : Type 0 where
     pub steps : List (Step Q A)
     pub follows : ExecutesInOrder limits before from [] steps after to
     pub text_is : text ≡ responses steps
 
-  -- a request was read and not executed, for this reason
+  -- a request was read but not executed, for this reason
   pub record FailsRequest (before : B) (from : F) (why : E) (after : B) (to : F) : Type 0 where
     pub request : Q
     pub bytes : List ℕ
@@ -68,8 +68,8 @@ module _ {B F Q A E H : Type 0} (backend : backends.Ghosts B Q A E) (framing : f
     pub step : Step Q A
     pub is : Executes before from step.request step.bytes (Ok step.response) after to
 
-  -- why a group is over: it is to be committed before more is read; the input has ended; a request could not be read, or
-  -- not be executed, or its response not be buffered
+  -- why a group has ended: a commit is due before more is read; the input has ended; a request could not be read or not
+  -- be executed; or its response could not be buffered
   abbrev pub Halts : B → F → Halt E H → B → F → Type 0
   Halts before from halt.Pause after to = (before ≡ after) × (from ≡ to)
   Halts before from halt.End after to = (before ≡ after) × framing.ends from to
@@ -77,7 +77,7 @@ module _ {B F Q A E H : Type 0} (backend : backends.Ghosts B Q A E) (framing : f
   Halts before from (halt.Execute why) after to = FailsRequest before from why after to
   Halts before from halt.Memory after to = LosesResponse before from after to
 
-  -- a group that pauses has a request; any other one was over when it might go on
+  -- a group that ends with a pause has a request; any other group ended when it could take one more
   abbrev pub IsOver : Halt E H → List (Step Q A) → Type 0 → Type 0
   IsOver halt.Pause steps goes_on = HasSteps steps
   IsOver halt.End steps goes_on = IfSteps steps goes_on
@@ -85,8 +85,8 @@ module _ {B F Q A E H : Type 0} (backend : backends.Ghosts B Q A E) (framing : f
   IsOver (halt.Execute why) steps goes_on = IfSteps steps goes_on
   IsOver halt.Memory steps goes_on = IfSteps steps goes_on
 
-  -- a group: requests were read and executed, and this is what is written for their responses; then it was over, for
-  -- this reason
+  -- a group: requests were read and executed, these bytes are written for their responses, and then it ended for this
+  -- reason
   pub record RunsGroup (limits : GroupLimits) (before : B) (from : F) (why : Halt E H) (after : B) (to : F) (text : List ℕ) : Type 0 where
     pub middle : B
     pub at : F
@@ -94,7 +94,7 @@ module _ {B F Q A E H : Type 0} (backend : backends.Ghosts B Q A E) (framing : f
     pub halts : Halts middle at why after to
     pub is_over : IsOver why gathered.steps (MayGoOn limits middle at text)
 
-  -- a group was over for another reason than a pause
+  -- a group has ended for another reason than a pause
   abbrev pub IsNoPause : Halt E H → Type 0
   IsNoPause halt.Pause = ⊥
   IsNoPause halt.End = Unit {0}
@@ -102,8 +102,8 @@ module _ {B F Q A E H : Type 0} (backend : backends.Ghosts B Q A E) (framing : f
   IsNoPause (halt.Execute why) = Unit {0}
   IsNoPause halt.Memory = Unit {0}
 
-  -- None: a request was read and executed, and exactly its response is pending more. Some: the group is over, for this
-  -- reason, and the same is pending.
+  -- None: a request was read and executed, and exactly its response was added to the pending bytes. Some: the group has
+  -- ended for this reason, and the pending bytes are unchanged.
   abbrev pub TakesOne : B → F → List ℕ → Option (Halt E H) → B → F → List ℕ → Type 0
   TakesOne before from old None after to new =
       (step : Step Q A) × Executes before from step.request step.bytes (Ok step.response) after to

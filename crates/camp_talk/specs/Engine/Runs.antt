@@ -1,4 +1,4 @@
--- What a conversation did: groups of requests, each committed before its responses were written.
+-- A conversation: groups of requests, each committed before its responses are written.
 use Rattle.std.specs.Prelude.{◌≡◌, ◌⊎◌, ◌-◌, ◌^◌, ℕ, List, [], ◌∷◌, length, Option, Result, Ok, Err, flat_map}
 use Rattle.std.specs.Io.KnownBytes.{Appends, Consumes, Keeps}
 use Rattle.camp_talk.specs.Engine.Groups.{ExecutesInOrder, HasSteps, IfSteps, RunsGroup, Step, responses}
@@ -12,14 +12,15 @@ use Rattle.camp_talk.specs.declared.engine.runs.Stop.{Stop}
 use Rattle.camp_talk.specs.declared.engine.runs.Stop.TheVariants as stop
 
 module _ {B Q A E : Type 0} (backend : backends.Ghosts B Q A E) where
-  -- the whole history is durable: a commit was acknowledged, or no call was waiting for one
+  -- the whole history is durable: a commit was acknowledged, or there was no call to commit
   pub record IsCommitted (before after : B) : Type 0 where
     pub is : backend.commits before (Ok tt) after ⊎ ((backend.waiting before ≡ 0) × (after ≡ before))
     pub same : backend.history after ≡ backend.history before
     pub durable : backend.durable after ≡ backend.history after
 
--- what became of pending responses. Ok: the whole history is durable, and exactly they were written. Commit: the commit
--- failed, and nothing was written. Write: the whole history is durable, and a prefix of them was written.
+-- the result for pending responses. Ok: the whole history is durable, and exactly these responses were written. Commit:
+-- the commit failed, and nothing was written. Write: the whole history is durable, and a prefix of the responses was
+-- written.
 module _ {B Q A E H : Type 0} (backend : backends.Ghosts B Q A E) where
   abbrev pub FlushesGroup : B → List ℕ → Option (List ℕ) → Result (Unit {0}) (Stop E H) → B → Option (List ℕ) → Type 0
   FlushesGroup before text old (Ok done) after new = IsCommitted backend before after × Appends old new text
@@ -31,14 +32,14 @@ module _ {B Q A E H : Type 0} (backend : backends.Ghosts B Q A E) where
   FlushesGroup before text old (Err stop.Internal) after new = ⊥
 
 module _ {B F Q A E H : Type 0} (backend : backends.Ghosts B Q A E) (framing : framings.Ghosts F Q A H) (limits : GroupLimits) where
-  -- groups of requests were read and executed, and each was committed before the next one; none is empty
+  -- groups of requests were read and executed, each committed before the next one began; none is empty
   abbrev pub Commits : B → F → List (List (Step Q A)) → B → F → Type 0
   Commits before from [] after to = (before ≡ after) × (from ≡ to)
   Commits before from (steps ∷ groups) after to =
       (executed next : B) × (on : F) × HasSteps steps × ExecutesInOrder backend framing limits before from [] steps executed on
       × IsCommitted backend executed next × Commits next on groups after to
 
-  -- groups were executed and committed, exactly the bytes of their requests were read, and exactly their responses were
+  -- groups were executed and committed; exactly the bytes of their requests were read, and exactly their responses were
   -- written
   pub record HasRun (first : B) (from : F) (old : Option (List ℕ)) (last : B) (at : F) (new : Option (List ℕ)) : Type 0 where
     pub groups : List (List (Step Q A))
@@ -46,7 +47,7 @@ module _ {B F Q A E H : Type 0} (backend : backends.Ghosts B Q A E) (framing : f
     pub reads : Consumes (framing.remaining from) (framing.remaining at) (flat_map (λ steps. flat_map (λ step. step.bytes) steps) groups)
     pub writes : Appends old new (flat_map (λ steps. responses backend framing steps) groups)
 
-  -- after groups that were committed and written there was a last one, which was over for this reason
+  -- after groups that were committed and written comes a last group, which ended for this reason
   pub record EndsAfterGroup (why : Halt E H) (result : Result (Unit {0}) (Stop E H)) (first : B) (from : F) (old : Option (List ℕ)) (last : B) (to : F)
       (new : Option (List ℕ)) : Type 0 where
     pub begun : B
@@ -58,17 +59,16 @@ module _ {B F Q A E H : Type 0} (backend : backends.Ghosts B Q A E) (framing : f
     pub gathers : RunsGroup backend framing limits begun at why executed to text
     pub flushes : FlushesGroup backend executed text held result last new
 
-  -- it was that with any group
+  -- the same, for some last group
   pub record StopsAfterGroup (result : Result (Unit {0}) (Stop E H)) (first : B) (from : F) (old : Option (List ℕ)) (last : B) (to : F)
       (new : Option (List ℕ)) : Type 0 where
     pub why : Halt E H
     pub ends : EndsAfterGroup why result first from old last to new
 
-  -- a conversation. Ok: the input has ended, all is committed, and all responses were written. Commit: a commit failed,
-  -- and of the responses of its group none was written. Write: the last group is committed, and a prefix of its responses
-  -- was written. Read, Execute, Memory: no request could be read, or one was not executed, or its response not be buffered;
-  -- all is committed, and all other responses were written. Internal: there were 2^64 - 1 groups, each
-  -- with a request.
+  -- a conversation. Ok: the input has ended, everything is committed, and all responses were written. Commit: a commit
+  -- failed, and no response of its group was written. Write: the last group is committed, and a prefix of its responses
+  -- was written. Read, Execute, Memory: no request could be read, or one was not executed, or its response could not be
+  -- buffered; everything is committed, and all other responses were written. Internal: there were 2^64 - 1 groups.
   abbrev pub RunsAll : B → F → Option (List ℕ) → Result (Unit {0}) (Stop E H) → B → F → Option (List ℕ) → Type 0
   RunsAll first from old (Ok done) last to new = EndsAfterGroup halt.End (Ok done) first from old last to new
   RunsAll first from old (Err (stop.Commit why)) last to new = StopsAfterGroup (Err (stop.Commit why)) first from old last to new
@@ -79,7 +79,7 @@ module _ {B F Q A E H : Type 0} (backend : backends.Ghosts B Q A E) (framing : f
   RunsAll first from old (Err stop.Internal) last to new =
       (done : HasRun first from old last to new) × (length done.groups ≡ 2 ^ 64 - 1)
 
--- a fact, unless a commit failed
+-- a fact holds unless a commit failed
 abbrev pub UnlessCommitFails : {E H : Type 0} → Result (Unit {0}) (Stop E H) → Type 0 → Type 0
 UnlessCommitFails (Ok done) fact = fact
 UnlessCommitFails (Err (stop.Commit why)) fact = Unit {0}
@@ -89,7 +89,7 @@ UnlessCommitFails (Err (stop.Execute why)) fact = fact
 UnlessCommitFails (Err stop.Memory) fact = fact
 UnlessCommitFails (Err stop.Internal) fact = fact
 
--- after groups whose responses were written the whole history is durable; and so it is after a conversation, unless a
+-- after groups whose responses were written, the whole history is durable; so it is after a conversation, unless a
 -- commit failed: then nothing was written after the groups before it
 pub record ResponsesAreDurable {B F Q A E H : Type 0} (backend : backends.Ghosts B Q A E) (framing : framings.Ghosts F Q A H) : Type 0 where
   pub groups : (limits : GroupLimits) (first : B) (from : F) (old : Option (List ℕ)) (last : B) (at : F) (new : Option (List ℕ))

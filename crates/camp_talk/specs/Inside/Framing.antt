@@ -7,11 +7,11 @@ use Rattle.camp_talk.specs.Inside.Parts.{Ends}
 use Rattle.camp_talk.specs.declared.frames.FrameFault.{FrameFault}
 use Rattle.camp_talk.specs.declared.frames.FrameFault.TheVariants.{Cut, NoNumber, Talk, TooLarge}
 
--- a line gives this number of bytes of a request
+-- a line is the length of a request, in digits
 abbrev pub IsCounted : List ℕ → ℕ → Type 0
 IsCounted line count = (count_of line ≡ Some count) × (count ≤ most_bytes)
 
--- a line gives no number of bytes, or too large a one
+-- a line is not the length of a request, or it is too large a one
 abbrev pub IsNotCounted : List ℕ → FrameFault → Type 0
 IsNotCounted line NoNumber = count_of line ≡ None
 IsNotCounted line TooLarge = (count : ℕ) × (count_of line ≡ Some count) × (most_bytes < count)
@@ -19,18 +19,18 @@ IsNotCounted line Cut = ⊥
 IsNotCounted line (Talk fault) = ⊥
 
 module _ (remaining rest : Option (List ℕ)) where
-  -- some bytes were read after others, up to the capacity; or the input has ended
+  -- some further bytes were read, up to the capacity; or the input has ended
   abbrev pub ReadsMore : ℕ → Bool → List ℕ → List ℕ → Type 0
   ReadsMore capacity true old new =
       (more : List ℕ) × Consumes remaining rest more × (new ≡ old ++ more) × (length more ≤ capacity)
   ReadsMore capacity false old new = Consumes remaining rest [] × (new ≡ old) × Ends remaining rest
 
-  -- as many bytes were read as were wanted; or fewer, and the input has ended
+  -- the wanted number of bytes was read; or fewer, and the input has ended
   abbrev pub ReadsBytes : ℕ → Bool → List ℕ → Type 0
   ReadsBytes count true bytes = Consumes remaining rest bytes × (length bytes ≡ count)
   ReadsBytes count false bytes = Consumes remaining rest bytes × (length bytes < count) × Ends remaining rest
 
-  -- fewer bytes were read than were wanted
+  -- fewer bytes than wanted were read
   pub record ReadsFewer (count : ℕ) : Type 0 where
     pub some : List ℕ
     pub reads : Consumes remaining rest some

@@ -17,21 +17,21 @@ use Rattle.camp_talk.specs.declared.lines.Seen.TheVariants as seen
 abbrev pub ended : List (List ℕ) → List ℕ
 ended lines = flat_map (λ line. line ++ newline ∷ []) lines
 
--- lines, and the bytes after the last line feed, if there are any
+-- lines, and after the last line feed further bytes, if there are any
 abbrev pub with_last : List (List ℕ) → List ℕ → List (List ℕ)
 with_last lines [] = lines
 with_last lines (byte ∷ last) = lines ++ (byte ∷ last) ∷ []
 
--- after these lines of a command, these more were read
+-- these further lines of a command were read, after the given ones
 abbrev pub GoesOn : CommandLines → CommandLines → List (List ℕ) → Type 0
 GoesOn before after more =
     (first : List ℕ) (rest : List (List ℕ)) → HasRead before first rest → HasRead after first (rest ++ more)
 
--- what a reader shows of a line, given the number of bytes that are shown and the number of those before a line feed
+-- what a reader shows of a line, given the number of bytes that it shows and of those before a line feed
 abbrev pub seen_of : ℕ → ℕ → Seen
 seen_of shown before = if nat_lt before shown then seen.Line else (if shown == 0 then seen.End else seen.Part)
 
--- what a reader shows last of a line: its line feed, or the end of the input
+-- the end of what a reader shows of a line: its line feed, or the end of the input
 abbrev pub last_seen : Bool → Seen
 last_seen true = seen.Line
 last_seen false = seen.End
@@ -42,7 +42,7 @@ feed_of seen.Line = newline ∷ []
 feed_of other = []
 
 module _ (remaining rest : Option (List ℕ)) where
-  -- nothing is left, if the content of the reader is known
+  -- the contents of the reader, if known, are empty
   abbrev pub Ends : Type 0
   Ends = OnSome remaining (IsAtEnd rest)
 
@@ -58,12 +58,12 @@ module _ (remaining rest : Option (List ℕ)) where
     pub reads : Consumes remaining rest some
     pub one : length (lines_of some) ≤ 1
 
-  -- if the reader shows the end of the input, nothing is left
+  -- if the reader shows that the input has ended, its contents are empty
   abbrev pub EndsAt : Seen → Type 0
   EndsAt seen.End = Ends
   EndsAt other = Unit {0}
 
-  -- bytes of a line were read, and its line feed if that was shown; as much of the line as fits was appended
+  -- bytes of a line were read, with its line feed if that was shown; as much of the line as fits was appended
   pub record Takes (capacity : ℕ) (met : Seen) (old new : List ℕ) : Type 0 where
     pub line : List ℕ
     pub is_line : IsLine line
@@ -71,7 +71,7 @@ module _ (remaining rest : Option (List ℕ)) where
     pub consumes : Consumes remaining rest (line ++ feed_of met)
     pub ends : EndsAt met
 
-  -- lines were read, and a last one without a line feed: these, as they are read, were appended
+  -- lines were read, and a last one without a line feed; they were appended, as they are read
   pub record ReadsLines (old new : List ℕ) (lines : List (List ℕ)) (last : List ℕ) : Type 0 where
     pub whole : List (List ℕ)
     pub left : List ℕ
@@ -82,29 +82,30 @@ module _ (remaining rest : Option (List ℕ)) where
     pub are_lines : All IsLine whole
     pub is_line : IsLine left
 
-  -- a line was read with its line feed, or the input has ended after one without
+  -- a line was read, with its line feed; or one without, after which the input has ended
   abbrev pub ReadsLine : Bool → List ℕ → List ℕ → Type 0
   ReadsLine true old new = (line : List ℕ) × ReadsLines old new (line ∷ []) []
   ReadsLine false old new = (last : List ℕ) × ReadsLines old new [] last × Ends
 
-  -- the next line of a command was read, and processed; or the input has ended, and the one without a line feed was
+  -- the next line of a command was read and processed; or the input has ended, and a line without a line feed was
+  -- processed
   abbrev pub ReadsNext : Bool → List ℕ → List ℕ → CommandLines → CommandLines → Type 0
   ReadsNext true old new before after = (line : List ℕ) × ReadsLines old new (line ∷ []) [] × GoesOn before after (line ∷ [])
   ReadsNext false old new before after =
       (last : List ℕ) × ReadsLines old new [] last × GoesOn before after (with_last [] last) × Ends
 
-  -- a command was read, and bytes are its lines, as they are read
+  -- a command was read, and `bytes` are its lines, as they are read
   pub record ReadsHeld (whole : Bool) (held : List ℕ) : Type 0 where
     pub command : List ℕ
     pub lines : lines_of held ≡ lines_in command
     pub reads : ReadsCommand remaining rest whole command
 
--- a count of bytes has grown, without overflow
+-- a count of bytes was increased, without overflow
 pub record IsLonger (old new : List ℕ) : Type 0 where
   pub longer : length old < length new
   pub counted : length old < 2 ^ 64
 
--- reading failed, or a line ran out of memory
+-- reading failed, or memory ran out for a line
 abbrev pub IsReading : TalkFault → Type 0
 IsReading Memory = Unit {0}
 IsReading (Read error) = Unit {0}

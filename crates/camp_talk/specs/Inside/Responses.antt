@@ -1,4 +1,4 @@
--- The text that is written for a command, whether or not memory ran out.
+-- The text that is written for a command, also if memory ran out.
 use Rattle.std.specs.Prelude.{◌≡◌, ℕ, List, Result, Ok, Err, Vec}
 use Rattle.camp_call.specs.declared.replies.Refusal.{Refusal}
 use Rattle.camp_call.specs.declared.replies.Reply.TheVariants.{Refused}
@@ -14,14 +14,14 @@ abbrev pub answer_or_memory : {Z E : Type 0} → Result (Vec ℕ Z) E → List �
 answer_or_memory (Ok text) = text.items
 answer_or_memory (Err error) = memory_text
 
--- the writer failed
+-- the fault is one of the writer
 abbrev pub IsWriting : TalkFault → Type 0
 IsWriting Memory = ⊥
 IsWriting (Read error) = ⊥
 IsWriting (Write error) = Unit {0}
 IsWriting Internal = ⊥
 
--- the fault was not of the writer
+-- the fault is not one of the writer
 abbrev pub IsNotWriting : TalkFault → Type 0
 IsNotWriting Memory = Unit {0}
 IsNotWriting (Read error) = Unit {0}

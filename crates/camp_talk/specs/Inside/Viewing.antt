@@ -1,11 +1,11 @@
--- Reading a command and executing it on a state.
+-- Reading a command and executing it on a state that does not change.
 use Rattle.std.specs.Prelude.{◌≡◌, ℕ, Bool, List, ◌++◌, Option}
 use Rattle.std.specs.List.{flat_map}
 use Rattle.camp_repo.specs.States.{Contents}
 use Rattle.camp_talk.specs.Talks.{Exchange, ReadsCommand}
 use Rattle.camp_talk.specs.Views.{AnswersViewCommand, SeesAll}
 
--- a command was read, whole or as far as the input has it, and its answer was appended
+-- a command was read, complete or as far as the input has it, and its answer was appended
 pub record SeesStep (remaining rest : Option (List ℕ)) (old new : List ℕ) (state : Contents) (before : ℕ)
     (whole : Bool) (after : ℕ) : Type 0 where
   pub exchange : Exchange

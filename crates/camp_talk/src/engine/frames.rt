@@ -57,7 +57,7 @@ impl<R: Read> Framing<Vec<u8>, Vec<u8>> for Frames<R> {
     }
 }
 
-// True only if bytes begin with a whole frame.
+// True only if bytes begin with a complete frame.
 fn begin_with_frame(bytes: &[u8]) -> bool
     ensures { IsTrue result → BeginsWithFrame bytes.now }
 {
@@ -74,7 +74,7 @@ fn begin_with_frame(bytes: &[u8]) -> bool
     true
 }
 
-// Appends the frame of a response. If memory runs out nothing is appended.
+// Appends the frame of a response. If memory runs out, nothing is appended.
 fn append_frame(response: &[u8], pending: &mut Vec<u8>) -> Result<(), AllocError>
     ensures appends { OnOk result (pending.new.items ≡ pending.old.items ++ framed response.now) }
     ensures same { OnErr result (pending.new.items ≡ pending.old.items) }
@@ -89,7 +89,7 @@ fn append_frame(response: &[u8], pending: &mut Vec<u8>) -> Result<(), AllocError
     }
 }
 
-// Appends the frame of a response. If memory runs out a part of it is appended.
+// Appends the frame of a response. If memory runs out, a part of it is appended.
 fn append_parts(response: &[u8], pending: &mut Vec<u8>) -> Result<(), AllocError>
     ensures appends { OnOk result (pending.new.items ≡ pending.old.items ++ framed response.now) }
     ensures some { OnErr result (IsPartOf pending.old.items pending.new.items) }

@@ -4,19 +4,19 @@ ghost use Rattle.camp_talk.specs.Engine.Groups.{RunsGroup, TakesOne};
 
 use crate::engine::{Backend, Framing};
 
-/// How much may be pending before it is committed and written.
+/// The limits at which pending calls and responses are committed and written.
 #[derive(Clone, Copy, Debug)]
 pub struct GroupLimits {
-    /// Calls that are not known to be durable.
+    /// The most calls that are not known to be durable.
     pub calls: usize,
-    /// Bytes of responses.
+    /// The most bytes of responses.
     pub bytes: usize,
 }
 
-/// Why a group is over.
+/// Why a group has ended.
 #[derive(Debug, Drop)]
 pub(crate) enum Halt<B, F> {
-    /// It is to be committed before more is read.
+    /// A commit is due before more is read.
     Pause,
     /// The input has ended.
     End,
@@ -28,8 +28,8 @@ pub(crate) enum Halt<B, F> {
     Memory,
 }
 
-/// Reads and executes requests, and buffers their responses, while a whole request was read ahead and little is
-/// pending; the first one is read in any case.
+/// Reads and executes requests and buffers their responses, as long as a complete request was read ahead and little is
+/// pending. The first request is read in any case.
 pub(crate) fn gather<Q: Drop, A: Drop, B: Backend<Q, A>, F: Framing<Q, A>>(
     backend: &mut B,
     framing: &mut F,
@@ -54,7 +54,7 @@ pub(crate) fn gather<Q: Drop, A: Drop, B: Backend<Q, A>, F: Framing<Q, A>>(
     Halt::Pause
 }
 
-// Reads and executes a request, and buffers its response. Returns why the group is over, if it is.
+// Reads and executes a request, and buffers its response. If the group has ended, returns why.
 fn take_one<Q: Drop, A: Drop, B: Backend<Q, A>, F: Framing<Q, A>>(
     backend: &mut B,
     framing: &mut F,

@@ -1,4 +1,4 @@
-//! Conversations.
+//! Running a conversation.
 ghost use Rattle.std.specs.Prelude.{◌≡◌, [], Err, MatchResult, OnOk};
 ghost use Rattle.camp_talk.specs.Engine.Runs.{FlushesGroup, IsCommitted, ResponsesAreDurable, RunsAll};
 
@@ -13,21 +13,21 @@ use std::io::{self, Write};
 pub enum Stop<B, F> {
     /// A commit failed. No response of its group was written.
     Commit(B),
-    /// The writer failed. All is committed, and a prefix of the responses was written.
+    /// The writer failed. Everything is committed, and a prefix of the responses was written.
     Write(io::Error),
-    /// No request could be read. All is committed, and all responses were written.
+    /// No request could be read. Everything is committed, and all responses were written.
     Read(F),
-    /// A request was not executed. All is committed, and all other responses were written.
+    /// A request was not executed. Everything is committed, and all other responses were written.
     Execute(B),
-    /// Memory ran out for the response to a request, which was executed. All is committed, and all other
+    /// Memory ran out for the response to a request, which was executed. Everything is committed, and all other
     /// responses were written.
     Memory,
-    /// There were 2^64 - 1 groups, each with a request. No conversation reaches that.
+    /// There were 2^64 - 1 groups. No conversation reaches that.
     Internal,
 }
 
 /// Answers the requests of a framing, one after the other, until there are no more. Responses are buffered until
-/// everything that was executed before them is committed: before more has to be read for the next request, at the
+/// everything that was executed before them is committed: before the framing has to wait for the next request, at the
 /// limits of a group, and at the end.
 pub fn run<Q: Drop, A: Drop, B: Backend<Q, A>, F: Framing<Q, A>, W: Write>(
     alloc: Global,
@@ -55,7 +55,7 @@ pub fn run<Q: Drop, A: Drop, B: Backend<Q, A>, F: Framing<Q, A>, W: Write>(
     Err(Stop::Internal)
 }
 
-// Commits, unless nothing is waiting, and then writes what is pending and flushes. If the commit fails nothing is
+// Commits if there are calls to commit, and then writes what is pending and flushes. If the commit fails, nothing is
 // written.
 fn commit_and_write<Q, A, H, B: Backend<Q, A>, W: Write>(
     backend: &mut B,
@@ -77,7 +77,7 @@ fn commit_and_write<Q, A, H, B: Backend<Q, A>, W: Write>(
     }
 }
 
-// Commits, unless nothing is waiting.
+// Commits if there are calls to commit.
 fn commit_waiting<Q, A, B: Backend<Q, A>>(backend: &mut B) -> Result<(), B::Fault>
     ensures { MatchResult result (λ _. IsCommitted B.Backend backend.old backend.new) (λ why. B.commits backend.old (Err why) backend.new) }
 {
@@ -87,8 +87,8 @@ fn commit_waiting<Q, A, B: Backend<Q, A>>(backend: &mut B) -> Result<(), B::Faul
     backend.commit()
 }
 
-/// Where responses were written, all that was executed before is durable: after each group, and after a conversation
-/// of which no commit failed.
+/// When responses are written, everything that was executed before is durable: after each group, and after a
+/// conversation in which no commit failed.
 pub fn responses_are_durable<Q: Drop, A: Drop, B: Backend<Q, A>, F: Framing<Q, A>>()
     ensures law { ResponsesAreDurable B.Backend F.Framing }
 {}

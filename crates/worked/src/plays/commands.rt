@@ -1,4 +1,4 @@
-//! Books and heads: a command of a table, with its seat and how often it is executed.
+//! The commands of a table, each with its seat and how often it is executed.
 use crate::plays::faults::{NO_COMMAND, PlayFault};
 use crate::words::{number_of, split_word};
 use bstr::ByteSlice;
@@ -8,7 +8,7 @@ use camp_run::RunFault;
 use camp_script::{Script, ScriptFault, read_script};
 use std::alloc::{AllocError, Global};
 
-/// A command that is executed at a seat `times` times, and its lines.
+/// A command that is executed `times` times at a seat, with its lines.
 #[derive(Clone, Copy)]
 pub(crate) struct Command<'a> {
     pub(crate) seat: u32,
@@ -32,7 +32,7 @@ pub(crate) fn command_of<'a>(
     })
 }
 
-/// Returns how often a line is repeated, and the line.
+/// Returns how often a line is to be repeated, and the line.
 fn count_before(line: &[u8]) -> Result<(u32, &[u8]), PlayFault> {
     match line.strip_prefix(b"repeat ") {
         Some(rest) => number_before(rest),
@@ -40,7 +40,7 @@ fn count_before(line: &[u8]) -> Result<(u32, &[u8]), PlayFault> {
     }
 }
 
-/// Returns the number that a line begins with, and the rest of the line.
+/// Returns the number at the start of a line, and the rest of the line.
 fn number_before(line: &[u8]) -> Result<(u32, &[u8]), PlayFault> {
     match line.split_once_str(b" ") {
         Some((word, rest)) => Ok((number(word)?, rest)),
@@ -53,7 +53,7 @@ pub(crate) fn number(word: &[u8]) -> Result<u32, PlayFault> {
     number_of(word).ok_or(NO_COMMAND)
 }
 
-/// Parses words as numbers, as many as fit; missing ones stay as they are.
+/// Parses words as numbers, as many as there are variables; variables without a word are unchanged.
 pub(crate) fn read_numbers(words: &[u8], numbers: &mut [u32]) -> Result<(), PlayFault> {
     for (at, word) in numbers.iter_mut().zip(words.fields()) {
         *at = number(word)?;
@@ -62,8 +62,8 @@ pub(crate) fn read_numbers(words: &[u8], numbers: &mut [u32]) -> Result<(), Play
 }
 
 impl<'a> Command<'a> {
-    /// Returns the call of the command. Replaces each `%` of its first line by `time`, the number of this execution from
-    /// 1, except in `pull-listed` and `obliterate-listed`.
+    /// Returns the call of the command. Replaces each `%` of its first line by `time`, the number of this execution,
+    /// from 1; not in `pull-listed` and `obliterate-listed`.
     pub(crate) fn call(self, alloc: Global, time: u32) -> Result<Call, PlayFault> {
         if let Some(branches) = self.first.strip_prefix(b"pull-listed ") {
             return listless_pull(alloc, branches);
@@ -127,7 +127,7 @@ fn last_of(calls: Vec<Call>) -> Result<Call, PlayFault> {
     calls.pop().ok_or(NO_COMMAND)
 }
 
-// Parses the calls that no script can contain: with an empty list of names, as `pull-listed FROM TO` and
+// Parses calls that no script can contain, since their list of names is empty: `pull-listed FROM TO` and
 // `obliterate-listed BRANCH`.
 fn listless_pull(alloc: Global, branches: &[u8]) -> Result<Call, PlayFault> {
     let Some((from, to)) = names_of(branches) else {

@@ -1,4 +1,4 @@
-//! Books and heads: the answers to a command so far.
+//! The executions of a command so far.
 use crate::plays::faults::PlayFault;
 use crate::plays::{Answer, append_bytes};
 use camp_repo::Fault;
@@ -12,7 +12,7 @@ pub(crate) struct Executions {
 }
 
 impl Executions {
-    /// Starts with no execution.
+    /// Makes it for a command that was not executed yet.
     pub(crate) fn nothing() -> Executions {
         Executions {
             count: 0,
@@ -39,7 +39,7 @@ impl Executions {
     }
 }
 
-/// Appends the text of an answer, unless it is out of memory.
+/// Appends the text of an answer; out of memory has none.
 fn append_answer(answer: &Answer, text: &mut Vec<u8>) -> Result<(), PlayFault> {
     if let Err(Fault::Memory) = answer {
         return Err(PlayFault::Memory);

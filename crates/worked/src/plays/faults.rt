@@ -1,4 +1,4 @@
-//! Books and heads: why an entry has no answer.
+//! Why an entry of a book, a head or a run has no answer.
 use crate::words::words_of;
 use camp_object::Fault;
 use camp_run::RunFault;
@@ -20,7 +20,7 @@ pub(crate) const NO_LINE: PlayFault = PlayFault::Wrong("no such line");
 pub(crate) const NO_COMMAND: PlayFault = PlayFault::Wrong("no command");
 
 impl PlayFault {
-    /// Returns the words that report it.
+    /// Returns the words that report the fault.
     pub(crate) fn words(self, alloc: Global) -> Result<String, AllocError> {
         match self {
             PlayFault::Memory => words_of(alloc, &RunFault::Memory),
@@ -42,7 +42,7 @@ impl<T: Drop> From<AllocFailed<T>> for PlayFault {
     }
 }
 
-/// Makes a buffer, or runs out of memory.
+/// Makes a buffer, or returns out of memory.
 impl From<io::Error> for PlayFault {
     fn from(_error: io::Error) -> PlayFault {
         PlayFault::Memory
@@ -58,7 +58,7 @@ impl From<Fault> for PlayFault {
     }
 }
 
-/// Converts the result of a run: out of memory is separate, any other fault is reported.
+/// Converts the result of a run: out of memory is an error of its own, any other fault is reported.
 pub(crate) fn ran(ended: Result<(), RunFault>) -> Result<(), PlayFault> {
     match ended {
         Ok(()) => Ok(()),

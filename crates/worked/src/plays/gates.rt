@@ -1,4 +1,4 @@
-//! Books and heads: gates at which the seats of a run wait for each other.
+//! Gates at which the seats of a run wait for each other.
 use crate::plays::commands::number;
 use crate::plays::faults::PlayFault;
 use crate::words::{meaning_of, split_word};
@@ -31,7 +31,7 @@ struct Event {
     number: u32,
 }
 
-/// A delay: at an event of one seat it waits until another one's event.
+/// A delay: at an event of one seat it waits until an event of another one.
 #[derive(Drop)]
 struct Delay {
     at: Event,
@@ -99,7 +99,7 @@ impl Delays {
         self.all.is_empty()
     }
 
-    /// True if each delay took place, and no seat gave up.
+    /// True if each delay took place, and no seat gave up waiting.
     pub(crate) fn are_kept(&self) -> bool {
         for delay in &self.all {
             if !delay.is_kept() {
@@ -149,7 +149,7 @@ impl SectionGate for Delays {
     }
 }
 
-/// Delays at the events of clients that take turns: a client that has the turn and is delayed keeps it.
+/// Delays at the events of clients that take turns; a client that is delayed keeps its turn.
 #[derive(Drop)]
 pub(crate) struct DelayedTurns<'a, R: Wait> {
     turn_gate: TurnGate<'a, R>,
@@ -166,7 +166,7 @@ impl<'a, R: Wait> DelayedTurns<'a, R> {
         }
     }
 
-    /// Checks that after a run nobody waits, and no section has woken more than two clients.
+    /// Checks after a run that nobody waits, and that no section has woken more than two clients.
     pub(crate) fn are_over(&self) -> Result<(), PlayFault> {
         if self.turn_gate.waiting() != 0 {
             return Err(PlayFault::Wrong("a client still waits"));

@@ -1,4 +1,4 @@
-//! Books and heads: scripts that are run, in one thread, over a lock or over a head.
+//! Scripts that are run in one thread, over a lock or over a head.
 ghost use Rattle.std.specs.Prelude.{◌↔◌, ◌<◌, ◌≤◌, IsTrue};
 ghost use Rattle.camp_clients.specs.Sections.{most_run_tries};
 
@@ -25,7 +25,7 @@ enum Means {
     Locked,
     /// In threads over a head; a call gives up after this many lost exchanges.
     Head(u32),
-    /// The same, with clients that take turns.
+    /// In threads over a head, with clients that take turns.
     Turns(u32),
 }
 
@@ -39,11 +39,11 @@ const MEANS: &[(&str, Means)] = &[
 /// What is shown of a run.
 #[derive(Clone, Copy)]
 enum Output {
-    /// What it writes, with its history.
+    /// Its output, with the history.
     Answers,
     /// How its calls were answered.
     Counts,
-    /// The bytes that arrived from its reader and its writer, which may fail.
+    /// The bytes that arrived at its writer; its reader and its writer may fail.
     Ends,
 }
 
@@ -71,7 +71,7 @@ struct Run {
     commands: Vec<u8>,
 }
 
-/// Runs the script of the lines of an entry, and appends what is to be shown of it.
+/// Runs the script of an entry, and appends what is to be shown of the run.
 pub(crate) fn append_run<R: Threads + Wait + Sync>(
     rt: &R,
     entry: Entry<'_>,
@@ -163,8 +163,7 @@ impl Run {
         answer(rt, alloc, self.manner, &self.delays, &mut reader, writer)
     }
 
-    /// Appends what is to be shown of a run that has ended like this. A run that runs out of memory, as its
-    /// writer may, is tried again.
+    /// Appends what is to be shown of a run with this result. A run for which memory runs out is tried again.
     fn append_output(
         &self,
         ended: Result<(), PlayFault>,
@@ -183,7 +182,7 @@ impl Run {
         }
     }
 
-    /// Checks that a run that ran out of memory has written nothing.
+    /// Checks that a run for which memory ran out has written nothing.
     fn is_well(&self, ended: Result<(), PlayFault>, written: &[u8]) -> Result<(), PlayFault> {
         match ended {
             Err(PlayFault::Memory) if !written.is_empty() => {

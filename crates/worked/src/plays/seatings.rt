@@ -1,4 +1,4 @@
-//! Books and heads: a head with its seats, in any order.
+//! Heads and their seats.
 ghost use Rattle.std.specs.Prelude.{◌<◌, All, IfOk, IfSome, length};
 ghost use Rattle.camp_history.specs.Seats.{IsSeatOf};
 
@@ -23,8 +23,8 @@ pub(crate) struct Seating {
 const NO_SEAT: PlayFault = PlayFault::Wrong("no such seat");
 
 impl Seating {
-    /// Makes a head. The sizes are the number of seats, the calls of each, the tries of a call, and the
-    /// positions from one snapshot to the next.
+    /// Makes a head. The sizes are the number of seats, the calls of each, the tries of a call, and the distance
+    /// between snapshots.
     pub(crate) fn new(alloc: Global, sizes: [u32; 4]) -> Result<Seating, HeadFault> {
         let [seats, per_seat, tries, every] = sizes;
         let (head, seats) = Head::new(alloc, seats, per_seat, tries, every)?;
@@ -65,7 +65,7 @@ impl Seating {
         append_words(format!(in *text.allocator(); "adopted {adopted}\n"), text)
     }
 
-    /// Lets the seat publish what it has seen.
+    /// Publishes what a seat has seen.
     fn publish(&self, number: u32) -> Result<(), PlayFault> {
         Ok(self.head.publish_snapshot(self.seat(number)?)?)
     }

@@ -1,4 +1,4 @@
-//! Values: the arguments of a call, each read from its text.
+//! The arguments of a call, each parsed from its text.
 use crate::tables::Table;
 use crate::values::numbers::{Numbers, read_number, read_numbers};
 use camp_base::{Line, Path, Tree};
@@ -31,7 +31,7 @@ pub(crate) enum Value {
     Numbers(Numbers),
 }
 
-/// The kind of value as which an argument is read.
+/// The kind of value as which an argument is parsed.
 #[derive(Clone, Copy)]
 pub(crate) enum Kind {
     /// Bytes.
@@ -42,10 +42,10 @@ pub(crate) enum Kind {
     Lines,
     Tree,
     Label,
-    /// A label; each argument after it is one more.
+    /// A label; more labels may follow as further arguments.
     Labels,
     Named,
-    /// A catch if the text has the form of one, else a primitive.
+    /// A catch if the text has that form, else a primitive.
     NamedOrCatch,
     List,
     Contexted,
@@ -56,8 +56,8 @@ pub(crate) enum Kind {
     Numbers,
 }
 
-/// Parses the arguments of a call, of these kinds. A missing argument is parsed from an empty text, and surplus ones are
-/// ignored; `Kind::Labels` takes all that are left, or none.
+/// Parses the arguments of a call as values of these kinds. A missing argument is parsed from an empty text; surplus
+/// ones are ignored. `Kind::Labels` takes all arguments that are left, which may be none.
 pub(crate) fn read_values(
     table: &Table,
     kinds: &[Kind],
@@ -79,7 +79,7 @@ fn read_labels(table: &Table, texts: &[&[u8]]) -> Result<Value, NotationError> {
     Ok(Value::Labels(labels))
 }
 
-/// Returns the value of the first of some texts. A list or a tree may be given by its name.
+/// Parses the first of some texts. A list or a tree may be given by its name.
 fn read_value(table: &Table, kind: Kind, texts: &[&[u8]]) -> Result<Value, NotationError> {
     let (alloc, text) = (table.alloc(), first_of(texts));
     match kind {
@@ -102,7 +102,7 @@ fn first_of<'a>(texts: &[&'a [u8]]) -> &'a [u8] {
     }
 }
 
-/// Reads a value that consists of patches from a text.
+/// Parses a value that consists of patches.
 fn read_patches(table: &Table, kind: Kind, text: &[u8]) -> Result<Value, NotationError> {
     let (alloc, known) = (table.alloc(), table.known());
     match kind {

@@ -1,4 +1,4 @@
-//! Values: the calls on names, paths and lines, and the words of faults.
+//! The calls on names, paths and lines, and the words for faults.
 use crate::tables::Table;
 use crate::values::calls::Call;
 use crate::values::results::{Outcome, rendered};
@@ -14,7 +14,7 @@ use std::alloc::AllocError;
 use std::fmt::Display;
 use std::io::ErrorKind;
 
-/// Appends the bytes as a name, a path or a line, or the words with which they are rejected.
+/// Appends bytes if they are a name, a path or a line; else the words for the fault.
 pub(crate) fn answer(table: &Table, call: Call, bytes: &[u8]) -> Outcome {
     match call {
         Call::Name => displayed(table, Name::new(bytes)),
@@ -37,7 +37,7 @@ fn line(table: &Table, bytes: &[u8]) -> Outcome {
     }
 }
 
-/// Appends the words with which bytes are rejected.
+/// Appends the words for the fault of bytes.
 fn refused(table: &Table, fault: BaseFault) -> Outcome {
     match fault {
         BaseFault::Memory => Err(NotationError::Memory),
@@ -45,8 +45,8 @@ fn refused(table: &Table, fault: BaseFault) -> Outcome {
     }
 }
 
-/// Appends the words of faults: of bytes, of a change, of a run, of one over a lock, of a head, of a call and
-/// of an answer's writer, and of a script that runs out of memory. A fault in a line of a script is not among
+/// Appends the words for all faults: of bytes, of a change, of a run, of a run over a lock, of a head, of a call, of
+/// the writer of an answer, and of a script for which memory runs out. The faults of lines of a script are not among
 /// them.
 pub(crate) fn faults(table: &Table) -> Outcome {
     let mut text = String::new(table.alloc());
@@ -80,7 +80,7 @@ fn append_faults(text: &mut String) -> Result<(), AllocError> {
     append_words(text, &[ScriptFault::Memory])
 }
 
-/// Appends the words of some faults.
+/// Appends the words for some faults.
 fn append_words<T: Display>(text: &mut String, faults: &[T]) -> Result<(), AllocError> {
     let mut between = if text.is_empty() { "" } else { "; " };
     for fault in faults {

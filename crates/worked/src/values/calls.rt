@@ -1,4 +1,4 @@
-//! Values: the calls: their names, the kinds of their arguments, and the modules of their results.
+//! All calls: their names, the kinds of their arguments, and the modules that compute their results.
 use crate::tables::Table;
 use crate::values::arguments::{Kind, Value, read_values};
 use crate::values::results::{Outcome, word};
@@ -6,7 +6,7 @@ use crate::values::splits::split;
 use crate::values::{bases, catches, contexts, lists, primitives, shares, trees};
 use crate::words::meaning_of;
 
-/// A call, by its name.
+/// A call in a table, by its name.
 #[derive(Clone, Copy)]
 pub(crate) enum Call {
     Add,
@@ -51,7 +51,7 @@ pub(crate) enum Call {
     Without,
 }
 
-/// The calls by their names, each with the kinds of its arguments.
+/// All calls by their names, each with the kinds of its arguments.
 const CALLS: &[(&str, (Call, &[Kind]))] = &[
     ("name", (Call::Name, &[Kind::Word])),
     ("path", (Call::Path, &[Kind::Word])),
@@ -154,7 +154,7 @@ fn answer_text(table: &Table, call: Call, kinds: &[Kind], text: &[u8]) -> Outcom
     answer_values(table, call, &values)
 }
 
-/// Returns the result of a call, from the module for the kind of its first argument.
+/// Returns the result of a call from the module for the kind of its first argument.
 fn answer_values(table: &Table, call: Call, values: &[Value]) -> Outcome {
     match values {
         [] => bases::faults(table),

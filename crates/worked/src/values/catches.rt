@@ -1,4 +1,4 @@
-//! Values: the calls on catches, and on lists of them.
+//! The calls on catches, and on lists of them.
 use crate::tables::Table;
 use crate::values::arguments::Value;
 use crate::values::calls::{Call, no_such_call};
@@ -50,7 +50,7 @@ fn aligned(table: &Table, list: &[Shared<Catch>], labels: &[Label]) -> Outcome {
     render_list(table, align(table.alloc(), list, &order))
 }
 
-/// Shows what is made of a list, or what blocks it.
+/// Shows the resulting list, or what blocks it.
 fn render_list<T: Shown + Drop, O: Obstacle>(table: &Table, made: Result<T, Unmade<O>>) -> Outcome {
     match made {
         Ok(list) => show(table, &list),
@@ -82,7 +82,7 @@ impl Obstacle for NoMerge {
     }
 }
 
-/// Appends words, each followed by an absolute label: a label without a caret.
+/// Appends words, each followed by an absolute label, which is written as a label without a caret.
 fn words_of_keys(table: &Table, words: &[(&str, Key)]) -> Result<String, AllocError> {
     let mut text = String::new(table.alloc());
     for (word, key) in words {

@@ -1,4 +1,4 @@
-//! Values: the calls on contexted patches, and on sets of them.
+//! The calls on contexted patches, and on sets of them.
 use crate::tables::Table;
 use crate::values::arguments::Value;
 use crate::values::calls::{Call, no_such_call};

@@ -1,4 +1,4 @@
-//! Values: the calls on lists of primitives.
+//! The calls on lists of primitives.
 use crate::tables::Table;
 use crate::values::arguments::Value;
 use crate::values::calls::{Call, no_such_call};

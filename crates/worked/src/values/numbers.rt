@@ -1,4 +1,4 @@
-//! Shared lists of numbers, written as the ranges that they are made of: `0..40 66..67`.
+//! Shared lists of numbers, written as ranges: `0..40 66..67`.
 
 use crate::words::number_of;
 use bstr::ByteSlice;
@@ -58,7 +58,7 @@ pub(crate) fn numbers_text(alloc: Global, numbers: &Numbers) -> Result<String, A
     Ok(text)
 }
 
-/// Makes numbers, each one more than the one before it.
+/// Makes consecutive numbers.
 #[derive(Clone, Copy)]
 struct Row {
     from: u32,

@@ -1,4 +1,4 @@
-//! Values: showing results, and reading them back.
+//! Showing results, and parsing them again.
 use crate::tables::Table;
 use crate::values::numbers::{Numbers, numbers_text};
 use crate::words::words_of;
@@ -14,11 +14,11 @@ use camp_seq::Seq;
 use camp_share::Shared;
 use std::alloc::AllocError;
 
-/// The result of a call, or the words with which it is rejected.
+/// The result of a call, or the words for its fault.
 pub(crate) type Outcome = Result<String, NotationError>;
 
-/// A value that can be a result. A contexted patch, a set, a catch and a list of catches are read back; a
-/// difference is shown.
+/// A value that can be a result. The texts of a contexted patch, a set, a catch and a list of catches are parsed again,
+/// and a difference is shown.
 pub(crate) trait Shown {
     /// Shows the text of the value.
     fn shown(&self, table: &Table) -> Outcome;
@@ -141,7 +141,7 @@ fn are_same(list: &[Shared<Catch>], other: &[Shared<Catch>]) -> bool {
     list.len() == other.len()
 }
 
-// Shows a text, and whether it is read back as the value for which it was written.
+// Shows a text, and whether parsing it gives the value that it was rendered from.
 fn read_back(text: String, is_same: bool) -> Outcome {
     let mut text = text;
     if !is_same {
@@ -150,7 +150,7 @@ fn read_back(text: String, is_same: bool) -> Outcome {
     Ok(text)
 }
 
-/// Returns what a call makes, unless memory ran out.
+/// Returns the result of a call, unless memory ran out.
 pub(crate) fn render<T: Shown + Drop>(table: &Table, made: Result<T, AllocError>) -> Outcome {
     match made {
         Ok(value) => show(table, &value),
@@ -167,7 +167,7 @@ pub(crate) fn show<T: Shown>(table: &Table, value: &T) -> Outcome {
     }
 }
 
-/// Shows a word as it is.
+/// Shows a word.
 pub(crate) fn word(table: &Table, text: &str) -> Outcome {
     rendered(String::from_str(table.alloc(), text))
 }
@@ -184,8 +184,8 @@ pub(crate) fn rendered(text: Result<String, AllocError>) -> Outcome {
     }
 }
 
-/// Shows the tree that a change gives, or the words with which it is rejected. A change that is rejected and
-/// yet leaves another tree is reported.
+/// Shows the tree after a change, or the words for its fault. A change that fails and nevertheless changes the tree is
+/// reported.
 pub(crate) fn changed(
     table: &Table,
     before: &Tree,

@@ -1,4 +1,4 @@
-//! Values: the calls on shared lists.
+//! The calls on shared lists.
 
 use crate::tables::Table;
 use crate::values::arguments::Value;

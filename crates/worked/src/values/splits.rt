@@ -1,4 +1,4 @@
-//! Values: splits the text of arguments at its commas.
+//! Splits the text of arguments at its commas.
 ghost use Rattle.std.specs.Prelude.{◌≤◌, length};
 
 use std::alloc::{AllocError, Global};

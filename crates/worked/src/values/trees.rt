@@ -1,4 +1,4 @@
-//! Values: the calls on trees.
+//! The calls on trees.
 use crate::tables::Table;
 use crate::values::arguments::Value;
 use crate::values::calls::{Call, no_such_call};
@@ -58,7 +58,7 @@ fn remove_file(table: &Table, before: &Tree, path: &Path) -> Outcome {
     changed(table, before, tree, answer)
 }
 
-/// Replaces lines by others.
+/// Replaces lines of a file by others.
 fn splice(
     table: &Table,
     before: &Tree,
