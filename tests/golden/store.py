@@ -62,6 +62,8 @@ def forms(store):
     prompts_and_exports(store, path)
     failing_ends(store, path)
     refused_words(store, path)
+    loaded_files(store)
+    ignored_bytes(store)
 
 
 def frames(store, path):
@@ -110,6 +112,28 @@ def refused_words(store, path):
         store.expect(f"{words}", (done.returncode, done.stderr), (3, b"camp_shell: %s: not a regular file, or a file with several hard links\n" % words[1].encode()))
     os.remove(second)
     store.expect("files beside it", sorted(os.listdir(store.folder)), ["store", "text"])
+
+
+def loaded_files(store):
+    """The calls of all loaded files are durable, or none is; also where a branch is then written for git."""
+    path, first, second = (store.path(it) for it in ("loads", "first", "second"))
+    write(first, b"".join(calls(2)))
+    write(second, calls(1, 2)[0] + calls(1)[0])
+    store.run(path, calls(1, 9)[0])
+    content = read(path)
+    done = store.run(path, b"", ("--load", first, second))
+    store.expect("the second file is refused", (done.returncode, done.stdout, read(path)), (1, b"", content))
+    done = store.run(path, b"", ("--load", first, "--export", "main"))
+    store.expect("loaded and exported", (done.returncode, done.stdout.count(b"commit "), store.check(path)), (0, 3, 3))
+
+
+def ignored_bytes(store):
+    """How many bytes after the end do not count is said where there are some."""
+    path, content = store.path("ends"), encode([TITLE, *calls(2)])
+    for count in (0, 1, 2, 100):
+        write(path, content + b"=" * count)
+        said = b"camp_shell: %s: %d bytes after the end are ignored\n" % (path.encode(), count) if count else b""
+        store.report.expect_run(f"{count} bytes after the end", store.run(path, b"names main\n"), b"names 2\np0\np1\n", said)
 
 
 def limits(store):
