@@ -87,6 +87,12 @@ crash_leaves_store seen may_leave calls repository persists c now = record {
 pub counted : (history : List (ℕ × Call)) → length history ≡ length (calls_of history)
 counted history = sym (length-map history (λ e. e.1))
 
+-- the texts of a commit are those of the calls that are not known to be durable
+pub texts_wait : {D : Type 0} (repository : DurableRepository D) (read : List (ℕ × Call)) → read ≡ repository.book.calls → (new : List (List ℕ))
+    → new ≡ call_texts (calls_of (take (length read - repository.durable_count) (drop repository.durable_count read))) → new ≡ waiting_texts repository
+texts_wait repository read value new are =
+    are ∙ ap call_texts (slice_calls read repository.durable_count ∙ ap (λ (l : List (ℕ × Call)). drop repository.durable_count (calls_of l)) value)
+
 -- a batch that is not appended is a commit that is refused
 pub append_refuses : {D : Type 0} (is_usable : D → Bool) (repository : DurableRepository D) (why : StoreFault)
     → IsAppendFault is_usable repository.log (waiting_texts repository) why → RefusesToCommit is_usable repository (fault_of why)
