@@ -4,9 +4,10 @@ Words: CRATE or CRATE/src/FILE ..: the mutants of these; --find: prints tests th
 
 crates/worked/turns names lines of the bodies, with what a careless reader could have written in their place and the test that
 notices it: a table of crates/worked/stdin or of crates/worked_talks/stdin; `faults` or `answers`, the scripts of these files of
-tests/data; `examples PART`, `shell PART` or `store PART`, a part of golden/camp, golden/shell or golden/store; `strangers PART`, one
-of faults/strangers; or `allocations`, golden/allocations. In a copy of the repository each function has a body for each of its mutants, and a switch between them. The programs are built once,
-without proofs, and run with each mutant.
+tests/data; `examples PART`, `shell PART` or `store PART`, a part of golden/camp, golden/shell or golden/store; `pieces PART`, one of
+golden/pieces; `strangers PART`, one of faults/strangers; or `allocations`, golden/allocations. In a copy of the repository each
+function has a body for each of its mutants, and a switch between them. The programs are built once, without proofs, and run with
+each mutant.
 """
 
 import os
@@ -32,6 +33,7 @@ GOLDEN = {
     "examples": ("golden/camp", "camp", "CAMP", []),
     "shell": ("golden/shell", "camp_shell", "CAMP_SHELL", []),
     "store": ("golden/store", "camp_shell", "CAMP_SHELL", []),
+    "pieces": ("golden/pieces", "camp_shell", "CAMP_SHELL", []),
     "strangers": ("faults/strangers", "camp_shell", "CAMP_SHELL", []),
     "allocations": ("golden/allocations", "worked", "WORKED_FAILING", ["--fail-alloc", str(REFUSED)]),
 }
