@@ -233,12 +233,13 @@ def other_titles(store):
 
 
 def long(store):
-    """Stores of many calls, made in a pipe and opened again; their seconds."""
-    for number in (programs.many(store.program, 65_536), programs.many(store.program, 300_000)):
+    """Stores of many calls, made in a pipe and opened again; their seconds. What a pipe takes of a processor grows with the calls."""
+    sizes, used = [programs.many(store.program, it) for it in (65_536, 300_000)], []
+    for number in sizes:
         path, load, what = store.path(f"long-{number}"), store.path("text"), f"{number} calls"
         text = b"".join(long_script(number))
         write(load, text)
-        seconds = []
+        seconds, ends = [], [programs.used_seconds()]
         for step in (
             lambda: programs.run([store.program, "--load", load]),
             lambda: store.expect(what, store.run(path, text).stdout, oks(number)),
@@ -248,5 +249,9 @@ def long(store):
             started = time.time()
             step()
             seconds.append(time.time() - started)
+            ends.append(programs.used_seconds())
+        used.append(ends[2] - ends[1])
         store.report.note("{}: loaded in {:.2f} s, stored in {:.2f} s, checked in {:.2f} s, reopened in {:.2f} s".format(what, *seconds))
         os.remove(path)
+    if used[1] > 2 * used[0] * sizes[1] / sizes[0]:
+        store.fail(f"storing {sizes} calls takes {used} seconds of a processor")
