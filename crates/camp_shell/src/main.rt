@@ -82,7 +82,7 @@ fn loaded<'a>(
     Ok(book)
 }
 
-// PersistsCalls a conversation over a repository.
+// Holds a conversation over a repository.
 fn converse<'a>(rt: &HostRuntime, book: Book<State>, form: Form) -> Result<(), Stop<'a>> {
     match form_at(rt, form) {
         Form::Lines => Ok(talk_in_lines(rt, book)?),

@@ -42,7 +42,7 @@ pub(crate) fn hold_stored<'a>(
     }
 }
 
-// PersistsCalls a conversation over a durable repository.
+// Holds a conversation over a durable repository.
 fn converse(
     rt: &HostRuntime,
     kept: DurableRepository<File>,
@@ -77,7 +77,7 @@ fn talk_in_frames(rt: &HostRuntime, kept: DurableRepository<File>) -> Result<(),
     talk(&mut FramedStore::new(rt.alloc(), kept, reader, rt.stdout()))
 }
 
-// PersistsCalls a conversation over a durable repository, with prompts.
+// Holds a conversation over a durable repository, with prompts.
 #[derive(Drop)]
 struct PromptedStore<D: Disk, R, W> {
     alloc: Global,
