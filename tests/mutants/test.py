@@ -79,9 +79,9 @@ def run(report, words):
                 unproved.build(f"{folder}/crates/{crate}", program)
                 with ThreadPoolExecutor(programs.JOBS) as pool:
                     noticed.update((find if is_find else notice)(report, pool, program, some, tables_of_it))
-        left = [it for it in mutants if it not in noticed and it.test not in known]
+        left, built = [it for it in mutants if it not in noticed and it.test not in known], {}
         for kind in GOLDEN:
-            noticed.update(by_program(report, folder, kind, [it for it in left if it.test.split()[0] == kind]))
+            noticed.update(by_program(report, folder, kind, [it for it in left if it.test.split()[0] == kind], built))
     for it in mutants:
         report.count("test mutants")
         if is_find:
@@ -192,12 +192,14 @@ def differing(pool, program, pairs, known):
     return noticed
 
 
-def by_program(report, folder, kind, mutants):
-    """The mutants with which a part of a golden test finds something wrong, where it finds nothing wrong without them."""
+def by_program(report, folder, kind, mutants, built):
+    """The mutants with which a part of a golden test finds something wrong, where it finds nothing wrong without them. A program
+    that was built for another kind is used again."""
     _, crate, _, words = GOLDEN[kind]
-    noticed, program = {}, f"{folder}/{kind}"
-    if mutants:
+    noticed, program = {}, built.get((crate, *words), f"{folder}/{kind}")
+    if mutants and (crate, *words) not in built:
         unproved.build(f"{folder}/crates/{crate}", program, words)
+        built[(crate, *words)] = program
     for test in sorted({it.test for it in mutants}):
         report.expect(f"{test} without a mutant", is_well(test, program), True)
     for it in mutants:
