@@ -13,9 +13,9 @@ from tests.harness import programs
 from tests.harness.worked import REFUSED, failing_program, tables
 
 SECONDS, GATE = 170, "beside"
-GATE_WORDS = """memory-few memory-lists memory-book memory-seats memory-seats-snapshots memory-clients memory-heads calls-depending
+GATE_WORDS = """memory-few memory-lists memory-book memory-seats memory-seats-snapshots memory-clients memory-heads calls-depending calls-from-under
     calls-conflict calls-three-in-conflict calls-conflict-with-two calls-one-with-two calls-three-conflicts
-    calls-on-a-conflict calls-equal-changes calls-moving""".split()
+    calls-on-a-conflict calls-equal-changes calls-moving calls-seats""".split()
 # So many runs in a row that refuse nothing say that all allocations were refused.
 NOTHING, BATCH = 16, 64
 

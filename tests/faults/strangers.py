@@ -1,8 +1,8 @@
 """A store beside files of other programs: a file that is no store, and a log with bytes, stay as they are.
 
-A log is FILE-wal, as SQLite has it beside a database.
+A log is FILE-wal and a journal FILE-journal, as SQLite has them beside a database.
 
-Words: logs, databases name parts; none: both.
+Words: logs, links, journals, databases name parts; none: all.
 """
 
 import os
@@ -11,7 +11,7 @@ import tempfile
 
 from tests.harness import programs
 from tests.harness.paths import read, write
-from tests.harness.store import TITLE, calls, encode
+from tests.harness.store import NO_STORE, TITLE, calls, encode
 
 try:
     import sqlite3
@@ -40,7 +40,7 @@ print(base.execute("select count(*) from t").fetchone()[0], flush=True)
 
 
 def run(report, words):
-    parts = {"logs": logs, "databases": databases}
+    parts = {"logs": logs, "links": links, "journals": journals, "databases": databases}
     program = programs.path("camp_shell")
     with tempfile.TemporaryDirectory() as folder:
         for name in words or parts:
@@ -84,6 +84,43 @@ def put(path, content):
         write(path, content)
     elif os.path.exists(path):
         os.remove(path)
+
+
+def links(report, program, folder):
+    """A store that a link leads to: its log is the one beside it, and nothing is made or removed beside the link."""
+    path, link = f"{folder}/file", f"{folder}/link"
+    os.symlink(path, link)
+    for beside_file in (None, b"", b"x"):
+        for beside_link in (None, b"", b"x"):
+            write(path, encode(STORE))
+            put(f"{path}-wal", beside_file)
+            put(f"{link}-wal", beside_link)
+            done = programs.run([program, "--store", link], CALL)
+            what = f"a link, logs {beside_file} and {beside_link}"
+            report.expect_run(what, done, b"ok 3\n")
+            left = [read(it) if os.path.exists(it) else None for it in (f"{path}-wal", f"{link}-wal")]
+            report.expect(f"{what}: the logs", left, [beside_file or None, beside_link])
+            report.count("links")
+
+
+def journals(report, program, folder):
+    """A journal that only SQLite can play back: the file is no store, whatever it has, and both stay. One that begins with a zero
+    byte, or has no byte, is over: the store is opened."""
+    contents = {"a store": encode(STORE), "a text": b"hello\n"}
+    for name, content in contents.items():
+        for beside in (b"", bytes(512), b"\xd9\xd5\x05\xf9\x20\xa1\x63\xd7" + bytes(504)):
+            path, what = f"{folder}/file", f"{name}, and a journal {beside[:1]}"
+            put(path, content)
+            put(f"{path}-journal", beside)
+            before = files_of(folder)
+            done = programs.run([program, "--store", path], CALL)
+            if name == "a store" and beside[:1] in (b"", b"\0"):
+                report.expect_run(what, done, b"ok 3\n")
+                report.expect(f"{what}: the journal", read(f"{path}-journal"), beside)
+            else:
+                report.expect_run(what, done, b"", f"camp_shell: {path}: {NO_STORE}\n".encode(), 3)
+                report.expect(f"{what}: the files", files_of(folder), before)
+            report.count("journals")
 
 
 def databases(report, program, folder):

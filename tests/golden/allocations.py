@@ -6,7 +6,6 @@ grows with the size, give or take a factor of two.
 """
 
 import re
-import resource
 import subprocess
 from concurrent.futures import ThreadPoolExecutor
 
@@ -81,16 +80,11 @@ def count_of(program, row):
 
 def seconds_of(program, table):
     """The least seconds of a processor that the program takes for a table, of three runs."""
-    ends = [used_seconds()]
+    ends = [programs.used_seconds()]
     for _ in range(3):
         programs.run([program], table)
-        ends.append(used_seconds())
+        ends.append(programs.used_seconds())
     return min(end - start for start, end in zip(ends, ends[1:]))
-
-
-def used_seconds():
-    used = resource.getrusage(resource.RUSAGE_CHILDREN)
-    return used.ru_utime + used.ru_stime
 
 
 def run(report, words):

@@ -1,9 +1,10 @@
 """camp_shell's conversations are answered byte by byte: examples, short ones, loaded files, and lines at their limits.
 
-Words: examples, conversations, loads, lines, options name parts; none: all, and also a peer that waits for each answer, and many questions.
+Words: examples, conversations, loads, lines, options, terminals name parts; none: all, and also a peer that waits for each answer, and many questions.
 """
 
 import os
+import pty
 import re
 import tempfile
 
@@ -33,7 +34,7 @@ class Shell:
 
 def run(report, words):
     shell = Shell(report)
-    parts = {"examples": examples, "conversations": conversations, "loads": loads, "lines": lines, "peers": peers, "options": options}
+    parts = {"examples": examples, "conversations": conversations, "loads": loads, "lines": lines, "peers": peers, "options": options, "terminals": terminals}
     for name in words or parts:
         parts[name](shell)
 
@@ -48,6 +49,35 @@ def options(shell):
     long = programs.run([shell.program, "--help"]).stdout
     for it in re.findall(rb"^ .*(--[\w-]+)", short, re.M) + [b"Exit status:"]:
         shell.report.expect(f"the long help has {it}", it in long, True)
+
+
+def terminals(shell):
+    """Prompts ask for the lines where both ends are terminals, and nowhere else."""
+    asked, answer = b"names main\n", b"names 0\n"
+    for is_typed, is_shown in ((True, False), (False, True), (True, True)):
+        terminal, end = pty.openpty()
+        peer = programs.start([shell.program], **({"stdin": end} if is_typed else {}), **({"stdout": end} if is_shown else {}))
+        os.close(end)
+        if is_typed:
+            # The last byte ends the input, as Ctrl-D does.
+            os.write(terminal, asked + b"\4")
+        printed, error = peer.communicate(None if is_typed else asked, timeout=programs.TIMEOUT)
+        shown = shown_by(terminal) if is_shown else printed
+        what = f"a terminal as input: {is_typed}, as output: {is_shown}"
+        shell.report.expect(what, (b"camp> " in shown, shown.count(answer), error, peer.returncode), (is_typed and is_shown, 1, b"", 0))
+        os.close(terminal)
+        shell.report.count("terminals")
+
+
+def shown_by(terminal):
+    """What a terminal still shows after its program has ended, with plain ends of lines."""
+    shown = b""
+    while True:
+        try:
+            more = os.read(terminal, 65536)
+        except OSError:
+            return shown.replace(b"\r\n", b"\n")
+        shown += more
 
 
 def examples(shell):

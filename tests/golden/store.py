@@ -62,6 +62,8 @@ def forms(store):
     prompts_and_exports(store, path)
     failing_ends(store, path)
     refused_words(store, path)
+    loaded_files(store)
+    ignored_bytes(store)
 
 
 def frames(store, path):
@@ -110,6 +112,28 @@ def refused_words(store, path):
         store.expect(f"{words}", (done.returncode, done.stderr), (3, b"camp_shell: %s: not a regular file, or a file with several hard links\n" % words[1].encode()))
     os.remove(second)
     store.expect("files beside it", sorted(os.listdir(store.folder)), ["store", "text"])
+
+
+def loaded_files(store):
+    """The calls of all loaded files are durable, or none is; also where a branch is then written for git."""
+    path, first, second = (store.path(it) for it in ("loads", "first", "second"))
+    write(first, b"".join(calls(2)))
+    write(second, calls(1, 2)[0] + calls(1)[0])
+    store.run(path, calls(1, 9)[0])
+    content = read(path)
+    done = store.run(path, b"", ("--load", first, second))
+    store.expect("the second file is refused", (done.returncode, done.stdout, read(path)), (1, b"", content))
+    done = store.run(path, b"", ("--load", first, "--export", "main"))
+    store.expect("loaded and exported", (done.returncode, done.stdout.count(b"commit "), store.check(path)), (0, 3, 3))
+
+
+def ignored_bytes(store):
+    """How many bytes after the end do not count is said where there are some."""
+    path, content = store.path("ends"), encode([TITLE, *calls(2)])
+    for count in (0, 1, 2, 100):
+        write(path, content + b"=" * count)
+        said = b"camp_shell: %s: %d bytes after the end are ignored\n" % (path.encode(), count) if count else b""
+        store.report.expect_run(f"{count} bytes after the end", store.run(path, b"names main\n"), b"names 2\np0\np1\n", said)
 
 
 def limits(store):
@@ -209,12 +233,13 @@ def other_titles(store):
 
 
 def long(store):
-    """Stores of many calls, made in a pipe and opened again; their seconds."""
-    for number in (programs.many(store.program, 65_536), programs.many(store.program, 300_000)):
+    """Stores of many calls, made in a pipe and opened again; their seconds. What a pipe takes of a processor grows with the calls."""
+    sizes, used = [programs.many(store.program, it) for it in (65_536, 300_000)], []
+    for number in sizes:
         path, load, what = store.path(f"long-{number}"), store.path("text"), f"{number} calls"
         text = b"".join(long_script(number))
         write(load, text)
-        seconds = []
+        seconds, ends = [], [programs.used_seconds()]
         for step in (
             lambda: programs.run([store.program, "--load", load]),
             lambda: store.expect(what, store.run(path, text).stdout, oks(number)),
@@ -224,5 +249,9 @@ def long(store):
             started = time.time()
             step()
             seconds.append(time.time() - started)
+            ends.append(programs.used_seconds())
+        used.append(ends[2] - ends[1])
         store.report.note("{}: loaded in {:.2f} s, stored in {:.2f} s, checked in {:.2f} s, reopened in {:.2f} s".format(what, *seconds))
         os.remove(path)
+    if used[1] > 2 * used[0] * sizes[1] / sizes[0]:
+        store.fail(f"storing {sizes} calls takes {used} seconds of a processor")

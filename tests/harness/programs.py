@@ -63,6 +63,12 @@ def limit_files(size):
     return limit
 
 
+def used_seconds():
+    """Seconds of a processor that all programs took that were started here and have ended."""
+    used = resource.getrusage(resource.RUSAGE_CHILDREN)
+    return used.ru_utime + used.ru_stime
+
+
 def end(process):
     """Ends a process that was started here in a session of its own, with all that it started."""
     if process.poll() is None:

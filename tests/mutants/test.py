@@ -4,9 +4,10 @@ Words: CRATE or CRATE/src/FILE ..: the mutants of these; --find: prints tests th
 
 crates/worked/turns names lines of the bodies, with what a careless reader could have written in their place and the test that
 notices it: a table of crates/worked/stdin or of crates/worked_talks/stdin; `faults` or `answers`, the scripts of these files of
-tests/data; `examples PART`, `shell PART` or `store PART`, a part of golden/camp, golden/shell or golden/store; `strangers PART`, one
-of faults/strangers; or `allocations`, golden/allocations. In a copy of the repository each function has a body for each of its mutants, and a switch between them. The programs are built once,
-without proofs, and run with each mutant.
+tests/data; `examples PART`, `shell PART` or `store PART`, a part of golden/camp, golden/shell or golden/store; `pieces PART`, one of
+golden/pieces; `strangers PART`, one of faults/strangers; or `allocations`, golden/allocations. In a copy of the repository each
+function has a body for each of its mutants, and a switch between them. The programs are built once, without proofs, and run with
+each mutant.
 """
 
 import os
@@ -32,6 +33,7 @@ GOLDEN = {
     "examples": ("golden/camp", "camp", "CAMP", []),
     "shell": ("golden/shell", "camp_shell", "CAMP_SHELL", []),
     "store": ("golden/store", "camp_shell", "CAMP_SHELL", []),
+    "pieces": ("golden/pieces", "camp_shell", "CAMP_SHELL", []),
     "strangers": ("faults/strangers", "camp_shell", "CAMP_SHELL", []),
     "allocations": ("golden/allocations", "worked", "WORKED_FAILING", ["--fail-alloc", str(REFUSED)]),
 }
@@ -77,9 +79,9 @@ def run(report, words):
                 unproved.build(f"{folder}/crates/{crate}", program)
                 with ThreadPoolExecutor(programs.JOBS) as pool:
                     noticed.update((find if is_find else notice)(report, pool, program, some, tables_of_it))
-        left = [it for it in mutants if it not in noticed and it.test not in known]
+        left, built = [it for it in mutants if it not in noticed and it.test not in known], {}
         for kind in GOLDEN:
-            noticed.update(by_program(report, folder, kind, [it for it in left if it.test.split()[0] == kind]))
+            noticed.update(by_program(report, folder, kind, [it for it in left if it.test.split()[0] == kind], built))
     for it in mutants:
         report.count("test mutants")
         if is_find:
@@ -190,12 +192,14 @@ def differing(pool, program, pairs, known):
     return noticed
 
 
-def by_program(report, folder, kind, mutants):
-    """The mutants with which a part of a golden test finds something wrong, where it finds nothing wrong without them."""
+def by_program(report, folder, kind, mutants, built):
+    """The mutants with which a part of a golden test finds something wrong, where it finds nothing wrong without them. A program
+    that was built for another kind is used again."""
     _, crate, _, words = GOLDEN[kind]
-    noticed, program = {}, f"{folder}/{kind}"
-    if mutants:
+    noticed, program = {}, built.get((crate, *words), f"{folder}/{kind}")
+    if mutants and (crate, *words) not in built:
         unproved.build(f"{folder}/crates/{crate}", program, words)
+        built[(crate, *words)] = program
     for test in sorted({it.test for it in mutants}):
         report.expect(f"{test} without a mutant", is_well(test, program), True)
     for it in mutants:

@@ -4,7 +4,8 @@ use Rattle.std.specs.List.{AllByRecursion}
 use Rattle.std.proofs.lemmas.List.{drop-map, drop_at, length-map, map-append, take_all}
 use Rattle.camp_call.specs.declared.calls.Call.{Call}
 use Rattle.camp_kept.specs.Accepting.{AreAccepted, History, IsPrefixOf, StoreContents, accepted_of}
-use Rattle.camp_kept.specs.Persisting.{DecodesToCalls, IsStoreOf, PersistsCalls, call_texts, disk_in, store_texts}
+use Rattle.camp_kept.specs.Faults.{RefusesToCommit, fault_of}
+use Rattle.camp_kept.specs.Persisting.{DecodesToCalls, IsStoreOf, PersistsCalls, call_texts, disk_in, store_texts, waiting_texts}
 use Rattle.camp_kept.specs.Titles.{title_of}
 use Rattle.camp_kept.specs.declared.repositories.DurableRepository.{DurableRepository}
 use Rattle.camp_kept.proofs.Listing.{accepted_more, legal_alone}
@@ -15,7 +16,9 @@ use Rattle.camp_repo.specs.Objects.{repository}
 use Rattle.camp_script.specs.Canonical.{call_text}
 use Rattle.camp_script.specs.Keeping.{CanStand, calls_of}
 use Rattle.camp_store.specs.Blocks.{DecodesTo}
-use Rattle.camp_store.specs.Logs.{IsBeforeOrAfter}
+use Rattle.camp_store.specs.Logs.{IsAppendFault, IsBeforeOrAfter}
+use Rattle.camp_store.specs.declared.faults.StoreFault.{StoreFault}
+use Rattle.camp_store.specs.declared.faults.StoreFault.TheVariants as store
 use Rattle.camp_store.proofs.BlockLemmas.{log_decodes}
 
 -- the calls after the first ones
@@ -47,12 +50,17 @@ pub call_texts-push : (history : List (ℕ × Call)) (entry : ℕ × Call) → c
 call_texts-push [] entry = refl
 call_texts-push (first ∷ history) entry = ap (λ (l : List (List ℕ)). call_text first.1 ∷ l) (call_texts-push history entry)
 
+-- the slice of a history after its first k entries has the calls after the first k
+pub slice_calls : (history : List (ℕ × Call)) (k : ℕ) → calls_of (take (length history - k) (drop k history)) ≡ drop k (calls_of history)
+slice_calls history k =
+    ap (λ (l : List (ℕ × Call)). calls_of l) (take_all (length history - k) (drop k history) (omega (arith, length-drop k history)))
+    ∙ sym (drop-map (λ (e : ℕ × Call). e.1) k history)
+
 -- the calls that are to be persisted, as a slice of a history
 pub slice_is : (history : List (ℕ × Call)) (calls : List Call) (front : IsBeginning calls (calls_of history)) (k : ℕ) → k ≡ length calls
     → calls_of (take (length history - k) (drop k history)) ≡ front.rest
 slice_is history calls front k is =
-    ap (λ (l : List (ℕ × Call)). calls_of l) (take_all (length history - k) (drop k history) (omega (arith, length-drop k history)))
-    ∙ sym (drop-map (λ (e : ℕ × Call). e.1) k history)
+    slice_calls history k
     ∙ ap (λ (n : ℕ). drop n (calls_of history)) is
     ∙ rest_is calls (calls_of history) front
 
@@ -78,3 +86,18 @@ crash_leaves_store seen may_leave calls repository persists c now = record {
 
 pub counted : (history : List (ℕ × Call)) → length history ≡ length (calls_of history)
 counted history = sym (length-map history (λ e. e.1))
+
+-- the texts of a commit are those of the calls that are not known to be durable
+pub texts_wait : {D : Type 0} (repository : DurableRepository D) (read : List (ℕ × Call)) → read ≡ repository.book.calls → (new : List (List ℕ))
+    → new ≡ call_texts (calls_of (take (length read - repository.durable_count) (drop repository.durable_count read))) → new ≡ waiting_texts repository
+texts_wait repository read value new are =
+    are ∙ ap call_texts (slice_calls read repository.durable_count ∙ ap (λ (l : List (ℕ × Call)). drop repository.durable_count (calls_of l)) value)
+
+-- a batch that is not appended is a commit that is refused
+pub append_refuses : {D : Type 0} (is_usable : D → Bool) (repository : DurableRepository D) (why : StoreFault)
+    → IsAppendFault is_usable repository.log (waiting_texts repository) why → RefusesToCommit is_usable repository (fault_of why)
+append_refuses is_usable repository store.Memory refused = tt
+append_refuses is_usable repository (store.Disk error) refused = tt
+append_refuses is_usable repository store.TooLong refused = refused
+append_refuses is_usable repository (store.Damaged count at) refused = absurd refused
+append_refuses is_usable repository store.Failed refused = inr refused

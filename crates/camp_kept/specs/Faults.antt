@@ -2,16 +2,18 @@
 use Rattle.std.specs.Prelude.{◌≡◌, ◌⊎◌, ◌<◌, ◌≤◌, ◌^◌, ℕ, zero, suc, Bool, false, List, [], ◌∷◌, ◌++◌, length, Option, Result, MatchResult}
 use Rattle.camp_call.specs.declared.calls.Call.{Call}
 use Rattle.camp_kept.specs.Accepting.{AreAccepted, StoreContents, alone}
-use Rattle.camp_kept.specs.Persisting.{DecodesToCalls, max_untitled_len, store_texts}
+use Rattle.camp_kept.specs.Persisting.{DecodesToCalls, HasFewerCalls, max_untitled_len, store_texts, waiting_texts}
 use Rattle.camp_kept.specs.Titles.{AreAsWanted, CanBeLimits, title_of}
 use Rattle.camp_kept.specs.declared.faults.PersistenceFault.{PersistenceFault}
 use Rattle.camp_kept.specs.declared.faults.PersistenceFault.TheVariants as persistence
+use Rattle.camp_kept.specs.declared.repositories.DurableRepository.{DurableRepository}
 use Rattle.camp_object.specs.Histories.{IsAccepted}
 use Rattle.camp_repo.specs.Limits.{Bounds}
 use Rattle.camp_repo.specs.Objects.{repository_within}
 use Rattle.camp_script.specs.Canonical.{IsScriptCall, call_text}
 use Rattle.camp_store.specs.Blocks.{AreBlocks, DecodesTo, IsBlock, IsEnd, chain, first_digest}
 use Rattle.camp_store.specs.Counting.{ReportsFault}
+use Rattle.camp_store.specs.Logs.{IsAppendFault}
 use Rattle.camp_store.specs.declared.faults.StoreFault.{StoreFault}
 use Rattle.camp_store.specs.declared.faults.StoreFault.TheVariants as store
 
@@ -155,3 +157,19 @@ IsCommitFault (persistence.Store (store.Disk error)) = Unit {0}
 IsCommitFault (persistence.Store store.TooLong) = Unit {0}
 IsCommitFault (persistence.Store (store.Damaged count at)) = ⊥
 IsCommitFault (persistence.Store store.Failed) = Unit {0}
+
+-- when these faults are reported. Failed: the book has fewer calls than are known to be durable, an earlier commit has
+-- failed at the disk, or the disk may not be used; TooLong: the text of a call that is not known to be durable does not
+-- fit in a block, or the file would have 2^64 bytes or more
+abbrev pub RefusesToCommit : {D : Type 0} → (D → Bool) → DurableRepository D → PersistenceFault → Type 0
+RefusesToCommit is_usable repository (persistence.Store store.Failed) =
+    HasFewerCalls repository ⊎ IsAppendFault is_usable repository.log (waiting_texts repository) store.Failed
+RefusesToCommit is_usable repository (persistence.Store store.TooLong) =
+    IsAppendFault is_usable repository.log (waiting_texts repository) store.TooLong
+RefusesToCommit is_usable repository (persistence.Store store.Memory) = ⊥
+RefusesToCommit is_usable repository (persistence.Store (store.Disk error)) = Unit {0}
+RefusesToCommit is_usable repository (persistence.Store (store.Damaged count at)) = ⊥
+RefusesToCommit is_usable repository persistence.Memory = Unit {0}
+RefusesToCommit is_usable repository persistence.NoStore = ⊥
+RefusesToCommit is_usable repository (persistence.Damaged call at) = ⊥
+RefusesToCommit is_usable repository (persistence.OtherLimits catches branches) = ⊥

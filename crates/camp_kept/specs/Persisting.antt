@@ -1,5 +1,5 @@
 -- The accepted calls of a repository, as texts in a file.
-use Rattle.std.specs.Prelude.{◌≡◌, ◌⊎◌, ◌≤◌, ℕ, Bool, false, List, [], ◌∷◌, length, map}
+use Rattle.std.specs.Prelude.{◌≡◌, ◌⊎◌, ◌<◌, ◌≤◌, ℕ, Bool, false, List, [], ◌∷◌, drop, length, map}
 use Rattle.camp_call.specs.declared.calls.Call.{Call}
 use Rattle.camp_kept.specs.Accepting.{AreAccepted, IsPrefixOf, StoreContents, accepted_of, empty_within}
 use Rattle.camp_kept.specs.Titles.{title_of}
@@ -75,6 +75,14 @@ AreFirstCalls stored repository = IsPrefixOf stored (accepted_by repository)
 -- the number of accepted calls that are known to be durable
 abbrev pub durable_count_in : {D : Type 0} → DurableRepository D → ℕ
 durable_count_in repository = repository.durable_count
+
+-- the book has fewer calls than are known to be durable, so it is not the one whose calls were persisted
+abbrev pub HasFewerCalls : {D : Type 0} → DurableRepository D → Type 0
+HasFewerCalls repository = length (accepted_by repository).calls < durable_count_in repository
+
+-- the texts of the accepted calls that are not known to be durable
+abbrev pub waiting_texts : {D : Type 0} → DurableRepository D → List (List ℕ)
+waiting_texts repository = call_texts (drop (durable_count_in repository) (accepted_by repository).calls)
 
 -- no commit has failed at the disk
 abbrev pub may_commit : {D : Type 0} → DurableRepository D → Bool

@@ -1,7 +1,7 @@
 //! The durable repository.
 ghost use Rattle.std.specs.Prelude.{◌≡◌, ◌⊎◌, ◌-◌, List, Err, false, length, IfErr, IfOk, IsTrue, MatchResult, OnOk, Option, ℕ};
 ghost use Rattle.camp_kept.specs.Accepting.{StoreContents};
-ghost use Rattle.camp_kept.specs.Faults.{CountsDiskFaults, IsCommitFault, IsContentFault, RefusesToOpen, ReportsDiskFault};
+ghost use Rattle.camp_kept.specs.Faults.{CountsDiskFaults, IsCommitFault, IsContentFault, RefusesToCommit, RefusesToOpen, ReportsDiskFault};
 ghost use Rattle.camp_kept.specs.declared.faults.PersistenceFault.TheVariants as fault;
 ghost use Rattle.camp_kept.specs.Persisting.{IsStoreOf, IsUntouched, LeavesCalls};
 ghost use Rattle.camp_kept.specs.Titles.{AreAsWanted, new_limits};
@@ -29,7 +29,7 @@ pub struct DurableRepository<D: Disk> {
 
 impl<D: Disk> DurableRepository<D> {
     ghost use Rattle.camp_kept.specs.TornTails.{HasTornTail};
-    ghost use Rattle.camp_kept.specs.Persisting.{AreFirstCalls, AreTexts, LeavesRepository, PersistsCalls, accepted_by, disk_in, durable_count_in, may_commit, torn_tail_len_in};
+    ghost use Rattle.camp_kept.specs.Persisting.{AreFirstCalls, AreTexts, HasFewerCalls, LeavesRepository, PersistsCalls, accepted_by, disk_in, durable_count_in, may_commit, torn_tail_len_in};
 
     /// Opens the repository that is persisted on a disk; creates a store on an empty one. If limits are wanted, an
     /// existing store has to have them, and a new store gets them; else a new store gets the default ones. A crash
@@ -93,7 +93,8 @@ impl<D: Disk> DurableRepository<D> {
 
     /// Persists all accepted calls of the book. After `Ok` each crash leaves a file with all of them. After an error a
     /// crash leaves those that were durable before the call, or all. If the disk has failed, no later commit uses it:
-    /// each returns `Failed` and changes nothing.
+    /// each returns `Failed` and changes nothing; and so does a commit of a book with fewer calls than are durable,
+    /// which is another book.
     pub fn commit(&mut self, alloc: Global) -> Result<(), PersistenceFault>
         ensures acknowledged { (stored : StoreContents) → AreFirstCalls stored self.old → PersistsCalls D.Disk.seen D.Disk.may_leave stored self.old
             → OnOk result (PersistsCalls D.Disk.seen D.Disk.may_leave (accepted_by self.old) self.new) }
@@ -102,6 +103,8 @@ impl<D: Disk> DurableRepository<D> {
         ensures book { self.new.book ≡ self.old.book }
         ensures leaves { IfErr result (λ why. LeavesRepository why self.old self.new) }
         ensures stopped { may_commit self.old ≡ false → (result ≡ Err (fault.Store store_fault.Failed)) × (self.new ≡ self.old) }
+        ensures fewer { HasFewerCalls self.old → (result ≡ Err (fault.Store store_fault.Failed)) × (self.new ≡ self.old) }
+        ensures refused { IfErr result (RefusesToCommit D.Disk.is_usable self.old) }
         ensures known { MatchResult result (λ _. durable_count_in self.new ≡ length (accepted_by self.new).calls) (λ _. durable_count_in self.new ≡ durable_count_in self.old) }
         ensures faults { CountsDiskFaults result (D.Disk.faults (disk_in self.old)) (D.Disk.faults (disk_in self.new)) }
         ensures fault { IfErr result IsCommitFault }
