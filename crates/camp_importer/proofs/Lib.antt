@@ -1,0 +1,4 @@
+pub mod BranchLemmas
+pub mod CallLemmas
+pub mod PullLemmas
+pub mod RecordLemmas

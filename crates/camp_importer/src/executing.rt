@@ -1,0 +1,32 @@
+//! One call of a book.
+
+ghost use Rattle.std.specs.Prelude.{◌≡◌};
+ghost use Rattle.camp_importer.specs.Calling.{AnswersCall, outcome_of};
+
+use crate::Reason;
+use camp_repo::{Book, Call, Reply, State};
+
+/// Executes a call that writes.
+pub(crate) fn execute(book: &mut Book<State>, seat: u32, call: &Call) -> Result<(), Reason>
+    ensures { AnswersCall call.now book.old result book.new }
+{
+    // Its clauses say that the state is lawful.
+    let _count = book.state().count();
+    match book.ask(seat, call) {
+        Ok(reply) => outcome_of(&reply),
+        Err(_) => Err(Reason::Memory),
+    }
+}
+
+/// Returns what comes of a call that writes. Only a question has another reply.
+fn outcome_of(reply: &Reply) -> Result<(), Reason>
+    ensures { result ≡ outcome_of reply.now }
+{
+    match reply {
+        Reply::Done(_) => Ok(()),
+        Reply::Refused(refusal) => Err(Reason::Refused(*refusal)),
+        Reply::Tree(_) => Err(Reason::Memory),
+        Reply::Conflicts(_) => Err(Reason::Memory),
+        Reply::Names(_) => Err(Reason::Memory),
+    }
+}
