@@ -179,8 +179,8 @@ def by_errors(errors):
 
 def controls_of(crate):
     """Functions that a batch may leave as they stand, the shortest first, each with all names of functions that are reached from
-    it: those with a name of their own, of no trait, and with a body."""
-    known = [it for file in sources(crate) for it in functions_in(read_text(file))]
+    it: those with a name of their own, of no trait, and with a body. A check does not see those of tests.rt."""
+    known = [it for file in sources(crate) if os.path.basename(file) != "tests.rt" for it in functions_in(read_text(file))]
     names = Counter(it[0] for it in known)
     calls = {name: set() for name in names}
     for name, _, text in known:
