@@ -1,5 +1,5 @@
 -- How the texts of a store grow.
-use Rattle.std.proofs.Common.{◌≡◌, ◌⊎◌, inl, inr, ℕ, List, [], ◌∷◌, ◌++◌, length, take, drop, refl, sym, ◌∙◌, ap, subst, ◌-◌, arith, length-drop}
+use Rattle.std.proofs.Common.{◌≡◌, ◌⊎◌, inl, inr, ℕ, Bool, Result, Ok, Err, IfErr, IsErrAnd, List, [], ◌∷◌, ◌++◌, length, take, drop, refl, sym, ◌∙◌, ap, subst, ◌-◌, arith, length-drop}
 use Rattle.std.specs.List.{AllByRecursion}
 use Rattle.std.proofs.lemmas.List.{drop-map, drop_at, length-map, map-append, take_all}
 use Rattle.camp_call.specs.declared.calls.Call.{Call}
@@ -7,6 +7,7 @@ use Rattle.camp_kept.specs.Accepting.{AreAccepted, History, IsPrefixOf, StoreCon
 use Rattle.camp_kept.specs.Faults.{RefusesToCommit, fault_of}
 use Rattle.camp_kept.specs.Persisting.{DecodesToCalls, IsStoreOf, PersistsCalls, call_texts, disk_in, store_texts, waiting_texts}
 use Rattle.camp_kept.specs.Titles.{title_of}
+use Rattle.camp_kept.specs.declared.faults.PersistenceFault.{PersistenceFault}
 use Rattle.camp_kept.specs.declared.repositories.DurableRepository.{DurableRepository}
 use Rattle.camp_kept.proofs.Listing.{accepted_more, legal_alone}
 use Rattle.camp_object.specs.Histories.{IsBeginning, IsLegal}
@@ -93,11 +94,18 @@ pub texts_wait : {D : Type 0} (repository : DurableRepository D) (read : List (�
 texts_wait repository read value new are =
     are ∙ ap call_texts (slice_calls read repository.durable_count ∙ ap (λ (l : List (ℕ × Call)). drop repository.durable_count (calls_of l)) value)
 
--- a batch that is not appended is a commit that is refused
-pub append_refuses : {D : Type 0} (is_usable : D → Bool) (repository : DurableRepository D) (why : StoreFault)
+append_refuses : {D : Type 0} (is_usable : D → Bool) (repository : DurableRepository D) (why : StoreFault)
     → IsAppendFault is_usable repository.log (waiting_texts repository) why → RefusesToCommit is_usable repository (fault_of why)
 append_refuses is_usable repository store.Memory refused = tt
 append_refuses is_usable repository (store.Disk error) refused = tt
 append_refuses is_usable repository store.TooLong refused = refused
 append_refuses is_usable repository (store.Damaged count at) refused = absurd refused
 append_refuses is_usable repository store.Failed refused = inr refused
+
+-- a batch that is not appended is a commit that is refused
+pub commit_refused : {D T : Type 0} (is_usable : D → Bool) (repository : DurableRepository D) (result : Result T PersistenceFault) (why : StoreFault)
+    → IsErrAnd result (λ fault. fault ≡ fault_of why) → IsAppendFault is_usable repository.log (waiting_texts repository) why
+    → IfErr result (RefusesToCommit is_usable repository)
+commit_refused is_usable repository (Ok value) why is refused = tt
+commit_refused is_usable repository (Err fault) why is refused =
+    subst (λ (f : PersistenceFault). RefusesToCommit is_usable repository f) (sym is) (append_refuses is_usable repository why refused)
