@@ -97,15 +97,16 @@ class Foreign(Exception):
 
 
 def in_order(index: int, rows: Sequence[Tuple[int, bytes]]) -> List[bytes]:
-    """The entries of rows, each with its index, from an index on and up to the first that is missing; `Damaged` where that is the
-    first of all."""
-    for number, (at, _) in enumerate(rows, index):
-        if at != number and number == index:
-            raise Damaged(index)
-        if at != number:
-            rows = rows[:number - index]
+    """The entries of rows, each with its index, from an index on and up to the first that is missing or no bytes; `Damaged` if that is
+    the first of all."""
+    entries: List[bytes] = []
+    for number, (at, text) in enumerate(rows, index):
+        if at != number or not isinstance(text, (bytes, memoryview)):
             break
-    return [bytes(text) for _, text in rows]
+        entries.append(bytes(text))
+    if rows and not entries:
+        raise Damaged(index)
+    return entries
 
 
 class SqliteLog:
