@@ -7,8 +7,6 @@ mod joining;
 mod pulling;
 mod recording;
 mod starting;
-#[cfg(test)]
-mod tests;
 
 pub use faults::Reason;
 pub use joining::join_parents;

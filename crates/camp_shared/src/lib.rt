@@ -5,8 +5,6 @@ mod faults;
 mod finding;
 mod laws;
 mod members;
-#[cfg(test)]
-mod tests;
 mod wanting;
 
 pub use camp_member::{NoReply, ReadFault};
