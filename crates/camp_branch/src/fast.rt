@@ -30,8 +30,8 @@ pub(crate) fn agreed(
 {
     // A fact for the prover: a length fits in a `usize`.
     prove!(from.len() <= usize::MAX);
-    let start = known + same_behind(from, to, known);
-    let more = alike_in_labels(from, to, start);
+    let start = known + count_same(from, to, known);
+    let more = count_alike_labels(from, to, start);
     if more == 0 {
         return Ok(start);
     }
@@ -45,7 +45,7 @@ pub(crate) fn agreed(
 }
 
 /// Counts the catches from index `known` on that are the same in both lists, up to the first difference.
-fn same_behind(
+fn count_same(
     from: &SharedList<Shared<Catch>>,
     to: &SharedList<Shared<Catch>>,
     known: usize,
@@ -74,7 +74,7 @@ fn same_behind(
 
 /// Estimates how many catches from index `known` on have the same labels in both lists, by sums over the hashes of
 /// their labels. Equal sums do not prove equal labels.
-fn alike_in_labels(
+fn count_alike_labels(
     from: &SharedList<Shared<Catch>>,
     to: &SharedList<Shared<Catch>>,
     known: usize,

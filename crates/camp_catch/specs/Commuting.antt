@@ -156,7 +156,7 @@ CommuteCatch (Catch.Conflictor j) (Plain b) k' j' = ConflictorPastPlain j b k' j
 CommuteCatch (Catch.Conflictor j) (Catch.Conflictor k) k' j' = CommuteConflictors j k k' j'
 
 -- commuting these two may run out of memory: any two, except plain ones that do not commute
-abbrev pub MayWant : Catch → Catch → Type 0
-MayWant (Plain a) (Plain b) = (b' : Named) × ((a' : Named) × Commute a b b' a')
-MayWant (Plain a) (Catch.Conflictor k) = Unit {0}
-MayWant (Catch.Conflictor j) k = Unit {0}
+abbrev pub CommuteMayAllocate : Catch → Catch → Type 0
+CommuteMayAllocate (Plain a) (Plain b) = (b' : Named) × ((a' : Named) × Commute a b b' a')
+CommuteMayAllocate (Plain a) (Catch.Conflictor k) = Unit {0}
+CommuteMayAllocate (Catch.Conflictor j) k = Unit {0}

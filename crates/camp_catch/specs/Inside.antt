@@ -1,5 +1,5 @@
 -- Definitions that only private functions use.
 pub mod InPlace
-pub mod Meetings
+pub mod QuickChecks
 pub mod Seen
 pub mod TwoConflictors

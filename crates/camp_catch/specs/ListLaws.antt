@@ -4,7 +4,7 @@ use Rattle.std.specs.Prelude.{◌≡◌, ◌↔◌, ◌⊎◌, ℕ, List, map, C
 use Rattle.camp_prim.specs.declared.labels.Key.{Key}
 use Rattle.camp_prim.specs.declared.named.Named.{Named}
 use Rattle.camp_seq.specs.Room.{HasRoom}
-use Rattle.camp_catch.specs.Arranging.{ComesBefore, StopsAt, DoNotCommute, Arrange, ArrangeIsBlocked, ComesFirst, Align, AlignIsBlocked}
+use Rattle.camp_catch.specs.Arranging.{CatchCommutesBeforeAll, IsBlockedByKey, DoNotCommute, Arrange, ArrangeIsBlocked, CatchMovesToFront, Align, AlignIsBlocked}
 use Rattle.camp_catch.specs.Commuting.{CommuteCatch}
 use Rattle.camp_catch.specs.Merging.{MergeCatch}
 use Rattle.camp_catch.specs.MergingLists.{MergesWithAll, IsBlockedWithin, MergeLists, MergeIsBlocked, DoNotMerge}
@@ -21,12 +21,12 @@ GivesOnePair {X} {Y} Result = (x z : X) (y w : Y) → Result x y → Result z w 
 
 -- each relation on lists of catches has at most one result, and each relation for a failure at most one pair of labels
 pub record ListsAreUnique : Type 0 where
-  pub comes_before : (list : List Catch) (k : Catch) → GivesOnePair (ComesBefore list k)
+  pub comes_before : (list : List Catch) (k : Catch) → GivesOnePair (CatchCommutesBeforeAll list k)
   pub stops_at :
-      (list : List Catch) (k : Catch) (on other : Key) → StopsAt list k on → StopsAt list k other → on ≡ other
+      (list : List Catch) (k : Catch) (on other : Key) → IsBlockedByKey list k on → IsBlockedByKey list k other → on ≡ other
   pub arranged : (names : List (List ℕ)) (list : List Catch) → GivesOnePair (Arrange names list)
   pub arrange_sticks : (names : List (List ℕ)) (list : List Catch) → GivesOnePair (ArrangeIsBlocked names list)
-  pub comes_first : (key : Key) (list : List Catch) → GivesOnePair (ComesFirst key list)
+  pub comes_first : (key : Key) (list : List Catch) → GivesOnePair (CatchMovesToFront key list)
   pub aligned :
       (order : List Key) (list aligned other : List Catch) → Align order list aligned → Align order list other →
       aligned ≡ other
@@ -63,7 +63,7 @@ pub record CatchesAreDecided : Type 0 where
 pub record ListsSucceedOrAreBlocked : Type 0 where
   pub comes_before :
       (list : List Catch) (k : Catch) →
-      OneOf (HasPair (ComesBefore list k)) ((on : Key) × StopsAt list k on)
+      OneOf (HasPair (CatchCommutesBeforeAll list k)) ((on : Key) × IsBlockedByKey list k on)
   pub arranges :
       (names : List (List ℕ)) (list : List Catch) →
       OneOf (HasPair (Arrange names list)) (HasPair (ArrangeIsBlocked names list))

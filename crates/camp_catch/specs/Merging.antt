@@ -7,7 +7,7 @@ use Rattle.camp_seq.specs.Merging.{Merges, MergesOne}
 use Rattle.camp_seq.specs.NormalOrder.{Norm}
 use Rattle.camp_seq.specs.Running.{inverse_all}
 use Rattle.camp_ctx.specs.Adding.{AddsToContext, AddsAll}
-use Rattle.camp_ctx.specs.Conflicts.{MergesBehindCommon, Conflict}
+use Rattle.camp_ctx.specs.Conflicts.{MergesCleanlyAfterCommon, Conflict}
 use Rattle.camp_ctx.specs.Contexts.{ContextedPatch, bare}
 use Rattle.camp_catch.specs.Conflictors.{Becomes, against, in_conflict_with, joined_by, with_effect}
 use Rattle.camp_catch.specs.declared.catches.Catch.{Catch}
@@ -76,7 +76,7 @@ JoinsWhere Holds l old new = (Holds × (new ≡ joined_by l old)) ⊎ ((¬ Holds
 pub record TwoConflictors (j k : Conflictor) (k' j' : Catch) : Type 0 where
   pub merged : List Named
   pub left : List Named
-  pub merge : MergesBehindCommon j.effect k.effect merged left
+  pub merge : MergesCleanlyAfterCommon j.effect k.effect merged left
   pub s2 : List Named
   pub r2 : List Named
   pub effect : Norm merged s2

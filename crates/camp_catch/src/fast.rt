@@ -16,11 +16,11 @@
 //! - The conflicts that a catch gains on its way through a list are kept beside it, and added to its set at once, when
 //! another step reads the set. That is possible since two conflictors without an effect change only their sets as they
 //! merge: if they conflict, the identity of each joins the set of the other, whatever is in it already.
-mod behind;
+mod after;
 mod gaining;
 mod passing;
 mod unmoved;
 
-pub(crate) use behind::merge_behind_all;
-pub(crate) use gaining::{Gaining, all_gaining, all_settled};
-pub(crate) use unmoved::{commute_as_they_are, merge_as_they_are};
+pub(crate) use after::merge_after_all;
+pub(crate) use gaining::{Gaining, all_gaining, all_with_gains};
+pub(crate) use unmoved::{catches_commute_unchanged, catches_merge_unchanged};

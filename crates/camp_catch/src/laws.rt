@@ -68,8 +68,8 @@ pub fn catches_are_decided()
 {}
 
 /// Every list can be arranged, aligned or merged, or is blocked at some labels, but not both.
-#[tactic(auto, using(crate::proofs::ListResults::lists_succeed_or_stick))]
-pub fn lists_succeed_or_stick()
+#[tactic(auto, using(crate::proofs::ListResults::lists_succeed_or_are_blocked))]
+pub fn lists_succeed_or_are_blocked()
     ensures law { ListsSucceedOrAreBlocked }
 {}
 
@@ -81,12 +81,12 @@ pub fn arrange_goes_by_members()
 
 /// Of plain catches with headroom: if a patch blocks some patches on their way to the front, every set that has these
 /// patches and can be moved to the front has that patch too.
-pub fn what_stops_comes_along()
+pub fn blockers_are_included()
     ensures law { BlockersAreIncluded }
 {}
 
 /// Of plain catches with headroom: if each of two sets of patches can be moved to the front, then, once the second is
 /// there, the rest of the first can be moved to the front of what follows.
-pub fn fronts_come_behind_fronts()
+pub fn fronts_follow_fronts()
     ensures law { FrontsFollowFronts }
 {}

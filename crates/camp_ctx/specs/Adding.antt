@@ -30,14 +30,14 @@ pub record Keeps (a : Named) (x y : ContextedPatch) : Type 0 where
   pub patch : y.patch ≡ x.patch
 
 -- a relation has no result for these
-abbrev pub GivesNone : (ContextedPatch → ContextedPatch → Type 0) → ContextedPatch → Type 0
-GivesNone Change x = (y : ContextedPatch) → ¬ (Change x y)
+abbrev pub HasNoResult : (ContextedPatch → ContextedPatch → Type 0) → ContextedPatch → Type 0
+HasNoResult Change x = (y : ContextedPatch) → ¬ (Change x y)
 
 -- adding a to a contexted patch: of cancel, commute and keep, the first that has a result
 pub data AddsToContext (a : Named) (x y : ContextedPatch) : Type 0 where
   cancel : Cancels a x y → AddsToContext a x y
-  commute : GivesNone (Cancels a) x → PassesBy a x y → AddsToContext a x y
-  keep : GivesNone (Cancels a) x → GivesNone (PassesBy a) x → Keeps a x y → AddsToContext a x y
+  commute : HasNoResult (Cancels a) x → PassesBy a x y → AddsToContext a x y
+  keep : HasNoResult (Cancels a) x → HasNoResult (PassesBy a) x → Keeps a x y → AddsToContext a x y
 
 -- a relation is applied with each element of a list, from the last to the first
 abbrev pub FromLast : (Named → ContextedPatch → ContextedPatch → Type 0) → List Named → ContextedPatch → ContextedPatch → Type 0

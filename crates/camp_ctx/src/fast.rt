@@ -25,14 +25,16 @@
 //! other, no list is made.
 //! - Two lists without a common label are merged as they are if each is its own normal order: splitting off the common
 //! part would change nothing. If their first primitives do not merge, the lists do not, and neither is copied.
-mod behind;
+mod after;
 mod conflicts;
 mod elsewhere;
 mod links;
 mod stays;
 
-pub use behind::conflict_behind;
-pub(crate) use conflicts::{are_apart, clash, conflict_in_any_order, merge_apart, stand_aside};
+pub use after::conflict_after_adding;
+pub(crate) use conflicts::{
+    are_apart, are_independent, conflict_by_first, conflict_in_any_order, merge_apart,
+};
 pub(crate) use elsewhere::are_elsewhere;
 pub(crate) use links::{becomes_context, linked};
 pub(crate) use stays::{changing, stays};

@@ -1,6 +1,6 @@
 //! The body of a hunk: its path and its two sides, without the line.
 ghost use Rattle.std.specs.Prelude.{◌≡◌, IfOk, length};
-ghost use Rattle.camp_prim.specs.Inside.BodyFields.{held_lines};
+ghost use Rattle.camp_prim.specs.Inside.BodyFields.{side_lines};
 
 use camp_base::{Line, Path};
 use camp_share::{Share, Shared};
@@ -11,12 +11,12 @@ use std::slice;
 /// What a hunk does at whatever line it applies: replaces old lines by new ones in the file at a path.
 #[derive(Debug, Drop)]
 pub(crate) struct Body {
-    held: Held,
+    held: BodyStorage,
 }
 
 // A body keeps the vectors that it was given until it is shared or copied.
 #[derive(Debug, Drop)]
-enum Held {
+enum BodyStorage {
     Own(Vectors),
     Shared(Shared<Parts>),
 }
@@ -57,7 +57,7 @@ impl Body {
     pub(crate) fn own(path: Path, old: Vec<Line>, new: Vec<Line>) -> Body
         ensures { result ≡ record { path = path; old = old.items; new = new.items } }
     {
-        let held = Held::Own(Vectors { path, old, new });
+        let held = BodyStorage::Own(Vectors { path, old, new });
         Body { held }
     }
 
@@ -66,9 +66,9 @@ impl Body {
         ensures { IfOk result (λ body. body ≡ self) }
     {
         match self.held {
-            Held::Own(own) => share_vectors(alloc, own),
-            Held::Shared(parts) => Ok(Body {
-                held: Held::Shared(parts),
+            BodyStorage::Own(own) => share_vectors(alloc, own),
+            BodyStorage::Shared(parts) => Ok(Body {
+                held: BodyStorage::Shared(parts),
             }),
         }
     }
@@ -78,8 +78,8 @@ impl Body {
         ensures { result.now ≡ self.now.path }
     {
         match &self.held {
-            Held::Own(own) => &own.path,
-            Held::Shared(parts) => &parts.path,
+            BodyStorage::Own(own) => &own.path,
+            BodyStorage::Shared(parts) => &parts.path,
         }
     }
 
@@ -88,8 +88,8 @@ impl Body {
         ensures { result.now ≡ self.now.old }
     {
         match &self.held {
-            Held::Own(own) => &own.old,
-            Held::Shared(parts) => parts.old.as_slice(),
+            BodyStorage::Own(own) => &own.old,
+            BodyStorage::Shared(parts) => parts.old.as_slice(),
         }
     }
 
@@ -98,8 +98,8 @@ impl Body {
         ensures { result.now ≡ self.now.new }
     {
         match &self.held {
-            Held::Own(own) => &own.new,
-            Held::Shared(parts) => parts.new.as_slice(),
+            BodyStorage::Own(own) => &own.new,
+            BodyStorage::Shared(parts) => parts.new.as_slice(),
         }
     }
 
@@ -108,8 +108,8 @@ impl Body {
         ensures { result ≡ length self.now.old }
     {
         match &self.held {
-            Held::Own(own) => own.old.len(),
-            Held::Shared(parts) => parts.old.len(),
+            BodyStorage::Own(own) => own.old.len(),
+            BodyStorage::Shared(parts) => parts.old.len(),
         }
     }
 
@@ -118,8 +118,8 @@ impl Body {
         ensures { result ≡ length self.now.new }
     {
         match &self.held {
-            Held::Own(own) => own.new.len(),
-            Held::Shared(parts) => parts.new.len(),
+            BodyStorage::Own(own) => own.new.len(),
+            BodyStorage::Shared(parts) => parts.new.len(),
         }
     }
 }
@@ -128,11 +128,11 @@ impl Share for Body {
     /// Makes a reference-counted copy. Allocates only if this body is not shared yet.
     fn share(&self) -> Result<Body, AllocError> {
         match &self.held {
-            Held::Own(own) => own.copy(),
-            Held::Shared(parts) => {
+            BodyStorage::Own(own) => own.copy(),
+            BodyStorage::Shared(parts) => {
                 let parts = parts.share()?;
                 Ok(Body {
-                    held: Held::Shared(parts),
+                    held: BodyStorage::Shared(parts),
                 })
             }
         }
@@ -159,7 +159,7 @@ fn share_vectors(alloc: Global, own: Vectors) -> Result<Body, AllocError>
     let (old, new) = (Side::of(old), Side::of(new));
     let parts = Shared::new(alloc, Parts { path, old, new })?;
     Ok(Body {
-        held: Held::Shared(parts),
+        held: BodyStorage::Shared(parts),
     })
 }
 
@@ -175,7 +175,7 @@ fn copy_lines(lines: &Vec<Line>) -> Result<Vec<Line>, AllocError>
 
 impl Side {
     fn of(mut lines: Vec<Line>) -> Side
-        ensures { held_lines result ≡ lines.items }
+        ensures { side_lines result ≡ lines.items }
     {
         if lines.len() > 1 {
             return Side::Many(lines);
@@ -187,7 +187,7 @@ impl Side {
     }
 
     fn len(&self) -> usize
-        ensures { result ≡ length (held_lines self.now) }
+        ensures { result ≡ length (side_lines self.now) }
     {
         match self {
             Side::Empty => 0,
@@ -197,7 +197,7 @@ impl Side {
     }
 
     fn as_slice(&self) -> &[Line]
-        ensures { result.now ≡ held_lines self.now }
+        ensures { result.now ≡ side_lines self.now }
     {
         match self {
             Side::Empty => &[],

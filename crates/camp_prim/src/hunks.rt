@@ -131,7 +131,7 @@ impl Hunk {
         ensures exact { IfOk result (λ found. MatchOption found (¬ (IsInRange (at_line line self.now))) (λ hunk. IsInRange (at_line line self.now) × (hunk ≡ at_line line self.now))) }
         ensures memory { IfErr result (λ error. IsInRange (at_line line self.now)) }
     {
-        if !self.can_stand_at(line) {
+        if !self.is_in_range_at(line) {
             return Ok(None);
         }
         let mut moved = self.try_clone()?;
@@ -156,7 +156,7 @@ impl Hunk {
     }
 
     /// True if the hunk is in range at another line.
-    pub(crate) fn can_stand_at(&self, line: u32) -> bool
+    pub(crate) fn is_in_range_at(&self, line: u32) -> bool
         ensures { IsTrue result ↔ IsInRange (at_line line self.now) }
     {
         is_in_range(line, self.old_len(), self.new_len())

@@ -19,4 +19,4 @@ pub use labels::{Key, Label, has_less_label, have_same_key, keys_are_ordered, la
 pub use named::Named;
 pub use neighbours::commute_in_place;
 pub use primitives::Primitive;
-pub use stays::{commutes, stay};
+pub use stays::{commutes, commutes_unchanged};

@@ -38,9 +38,9 @@ own_names gone name hunk =
 
 -- the names of the new lines of a hunk: those of the lines that its inverse removed, if there are as many, else those
 -- that the hunk itself gives
-abbrev pub names_coming : Option (List (List ℕ)) → List (List ℕ) → ℕ → List (List ℕ)
-names_coming None own count = own
-names_coming (Some taken) own count = if length taken == count then taken else own
+abbrev pub new_line_names : Option (List (List ℕ)) → List (List ℕ) → ℕ → List (List ℕ)
+new_line_names None own count = own
+new_line_names (Some taken) own count = if length taken == count then taken else own
 
 -- the state after a hunk of the file: the new lines with their names replace the old ones, whose names are stored
 -- under the absolute label of the hunk
@@ -51,7 +51,7 @@ known_after_hunk name key hunk known =
     let gone = slice_range known.names from to in
     record {
       names =
-          splice known.names from to (names_coming (get known.taken key) (own_names gone name hunk) (length hunk.new));
+          splice known.names from to (new_line_names (get known.taken key) (own_names gone name hunk) (length hunk.new));
       taken = insert known.taken key gone;
     }
 

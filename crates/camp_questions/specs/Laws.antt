@@ -34,13 +34,13 @@ use Rattle.camp_repo.specs.States.{Contents, stands}
 use Rattle.camp_repo.specs.Steps.{has_long_file, is_too_large, refused, step}
 use Rattle.camp_questions.specs.Along.{AreAlong}
 use Rattle.camp_questions.specs.Annotations.{Annotates, Known, known_after_hunk, names_of_lines}
-use Rattle.camp_questions.specs.CommonLines.{brought_by}
-use Rattle.camp_questions.specs.Dependencies.{AreHeldIn, CanGo, CanMoveToFront, HeldBy, Needs, AreBlockedBy}
+use Rattle.camp_questions.specs.CommonLines.{added_by}
+use Rattle.camp_questions.specs.Dependencies.{DependsOnTakenOut, CanBeTakenOut, CanMoveToFront, HeldBy, Needs, AreBlockedBy}
 use Rattle.camp_questions.specs.Differences.{missing_in}
-use Rattle.camp_questions.specs.Foresight.{AreOpenThere, Foresees, pairs_without}
+use Rattle.camp_questions.specs.Foresight.{AreUnresolvedAt, Foresees, pairs_without}
 use Rattle.camp_questions.specs.Graphs.{Drawn, IsGraph}
-use Rattle.camp_questions.specs.OpenConflicts.{AreOpen}
-use Rattle.camp_questions.specs.Pictures.{hangs_on}
+use Rattle.camp_questions.specs.OpenConflicts.{AreUnresolved}
+use Rattle.camp_questions.specs.Pictures.{is_one_or_neighbour}
 use Rattle.camp_questions.specs.Showing.{changes_in, patch_in}
 use Rattle.camp_questions.specs.Sides.{IsSideIn}
 use Rattle.camp_questions.specs.declared.annotations.Annotated.{Annotated}
@@ -66,15 +66,15 @@ abbrev pub AreAmong : List (List ℕ) → List (List ℕ) → Type 0
 AreAmong names others = (name : List ℕ) → is_among names name ≡ true → is_among others name ≡ true
 
 -- a name was added on the way from the first names to the grown ones: it stops a set of names between the two
-abbrev pub WasMet : (List (List ℕ) → List ℕ → Type 0) → List (List ℕ) → List (List ℕ) → List ℕ → Type 0
-WasMet Stops names grown name =
+abbrev pub WasAddedOnWay : (List (List ℕ) → List ℕ → Type 0) → List (List ℕ) → List (List ℕ) → List ℕ → Type 0
+WasAddedOnWay Stops names grown name =
     (between : List (List ℕ)) × AreAmong names between × AreAmong between grown × Stops between name
 
 -- the grown names contain the first ones, and each further name was added on the way
 pub record GrewFrom (Stops : List (List ℕ) → List ℕ → Type 0) (names grown : List (List ℕ)) : Type 0 where
   pub has : AreAmong names grown
   pub met :
-      (name : List ℕ) → is_among grown name ≡ true → is_among names name ≡ false → WasMet Stops names grown name
+      (name : List ℕ) → is_among grown name ≡ true → is_among names name ≡ false → WasAddedOnWay Stops names grown name
 
 -- the dependencies of patches can be moved to the front of their branch, and have grown from the patches by what blocks
 -- them
@@ -105,7 +105,7 @@ NeedsAreLeast =
 abbrev pub HeldIsLeast : Type 0
 HeldIsLeast =
     (branch : List Catch) (names held others : List (List ℕ)) → IsPlain branch → HeldBy branch names held →
-    AreAmong names others → CanGo branch others → AreAmong held others
+    AreAmong names others → CanBeTakenOut branch others → AreAmong held others
 
 -- of plain catches with headroom: if the dependencies of patches are pulled into a branch that has none of them, the
 -- pull is not refused because one of its patches depends on another
@@ -124,11 +124,11 @@ NeedsAndHeldAreOne =
 
 -- an obliteration of patches of a branch together with their dependents is accepted, and the dependents have grown from
 -- the patches by what depends on them
-abbrev pub HeldCanGo : Type 0
-HeldCanGo =
+abbrev pub HeldCanBeTakenOut : Type 0
+HeldCanBeTakenOut =
     (state : Contents) (name : List ℕ) (branch : List Catch) (names held : List (List ℕ)) → Has state name branch →
     first_lacked branch names ≡ None → names ≢ [] → HeldBy branch names held →
-    ((next : Contents) × (step state (call.Obliterate name held) ≡ Next next)) × GrewFrom (AreHeldIn branch) names held
+    ((next : Contents) × (step state (call.Obliterate name held) ≡ Next next)) × GrewFrom (DependsOnTakenOut branch) names held
 
 -- each list of names has exactly one list of dependents
 abbrev pub HeldIsDetermined : Type 0
@@ -148,39 +148,39 @@ pub record LinesHaveNames : Type 0 where
       (known_after_hunk other key (flipped hunk) (known_after_hunk name key hunk known)).names ≡ known.names
 
 -- a line is one that a hunk of a file adds, and the hunk is among the changes that a patch has in a branch
-pub record IsBrought (branch : List Catch) (path name line : List ℕ) : Type 0 where
+pub record IsAddedByPatch (branch : List Catch) (path name line : List ℕ) : Type 0 where
   pub hunk : Edit
   pub change : Contains (patch_in branch name).changes (Hunk hunk)
   pub file : hunk.path ≡ path
-  pub brings : Contains (brought_by hunk) line
+  pub brings : Contains (added_by hunk) line
 
 -- if a primitive is a hunk of the same file, it restores the lines that this hunk removed
-abbrev pub PutsBack : Edit → Primitive → Type 0
-PutsBack hunk (Add path) = Unit {0}
-PutsBack hunk (Remove path) = Unit {0}
-PutsBack hunk (Hunk other) = other.path ≡ hunk.path → other.new ≡ hunk.old
+abbrev pub RestoresLines : Edit → Primitive → Type 0
+RestoresLines hunk (Add path) = Unit {0}
+RestoresLines hunk (Remove path) = Unit {0}
+RestoresLines hunk (Hunk other) = other.path ≡ hunk.path → other.new ≡ hunk.old
 
 -- wherever the absolute label of a hunk occurs again in a list, the primitive there restores the lines that the hunk
 -- removed
-abbrev pub ComeAgainAsInverses : List Named → Type 0
-ComeAgainAsInverses [] = Unit {0}
-ComeAgainAsInverses (p ∷ s) =
-    ((hunk : Edit) → p.prim ≡ Hunk hunk → AllByRecursion (λ q. SameKey p q → PutsBack hunk q.prim) s)
-    × ComeAgainAsInverses s
+abbrev pub RepeatsRestoreLines : List Named → Type 0
+RepeatsRestoreLines [] = Unit {0}
+RepeatsRestoreLines (p ∷ s) =
+    ((hunk : Edit) → p.prim ≡ Hunk hunk → AllByRecursion (λ q. SameKey p q → RestoresLines hunk q.prim) s)
+    × RepeatsRestoreLines s
 
 -- each line in the answer for a path was added by a hunk of the patch whose name it has
-abbrev pub EachIsBrought : List Catch → List ℕ → Type 0
-EachIsBrought branch path =
+abbrev pub EachIsAddedByPatch : List Catch → List ℕ → Type 0
+EachIsAddedByPatch branch path =
     (lines : Lines) (names : List (List ℕ)) → Annotates branch path (File lines names) →
-    AllZip (IsBrought branch path) names lines
+    AllZip (IsAddedByPatch branch path) names lines
 
 -- each line was added by the patch whose name it has, if primitives that occur again in the effects of a branch only
 -- restore removed lines; in a lawful branch of plain catches none occurs again
-pub record LinesAreBrought : Type 0 where
+pub record LinesAreAddedByPatches : Type 0 where
   pub come_again :
-      (branch : List Catch) (path : List ℕ) → ComeAgainAsInverses (flat_map effect_of branch) → EachIsBrought branch path
+      (branch : List Catch) (path : List ℕ) → RepeatsRestoreLines (flat_map effect_of branch) → EachIsAddedByPatch branch path
   pub plain :
-      (patches : List Named) (path : List ℕ) → IsLawfulBranch (map Plain patches) → EachIsBrought (map Plain patches) path
+      (patches : List Named) (path : List ℕ) → IsLawfulBranch (map Plain patches) → EachIsAddedByPatch (map Plain patches) path
 
 -- two branches give the same answer for each path: the same lines, with the same names
 abbrev pub AnnotateAlike : List Catch → List Catch → Type 0
@@ -226,7 +226,7 @@ Arrow graph name other =
     (node : Node) × Contains graph.patches node × (node.name ≡ name) × (is_among node.needs other ≡ true)
 
 -- one name comes before another in a list
-pub record StandsBefore (names : List (List ℕ)) (first second : List ℕ) : Type 0 where
+pub record NameComesBefore (names : List (List ℕ)) (first second : List ℕ) : Type 0 where
   pub before : List (List ℕ)
   pub between : List (List ℕ)
   pub behind : List (List ℕ)
@@ -236,7 +236,7 @@ pub record StandsBefore (names : List (List ℕ)) (first second : List ℕ) : Ty
 abbrev pub ArrowsLeadBackwards : Type 0
 ArrowsLeadBackwards =
     (branch : List Catch) (graph : Drawn) → IsLawfulBranch branch → IsGraph branch graph → (name other : List ℕ) →
-    Arrow graph name other → StandsBefore (names_of branch) other name
+    Arrow graph name other → NameComesBefore (names_of branch) other name
 
 -- the patches that are reached along arrows from a patch: itself, and all that are reached from those to which its
 -- arrows lead
@@ -253,8 +253,8 @@ NeedsAreReached =
     (other : List ℕ) → (is_among needed other ≡ true) ↔ IsReached graph name other
 
 -- along arrows, a patch is reached from one of some names, or one of these from it
-abbrev pub HangTogether : Drawn → List (List ℕ) → List ℕ → Type 0
-HangTogether graph names other =
+abbrev pub IsConnected : Drawn → List (List ℕ) → List ℕ → Type 0
+IsConnected graph names other =
     (name : List ℕ) × (is_among names name ≡ true) × (IsReached graph name other ⊎ IsReached graph other name)
 
 -- in the graph of a lawful branch, the part that belongs to some patches consists of those reached from one of them
@@ -262,7 +262,7 @@ HangTogether graph names other =
 abbrev pub PartsAreReached : Type 0
 PartsAreReached =
     (branch : List Catch) (graph : Drawn) (names : List (List ℕ)) → IsLawfulBranch branch → IsGraph branch graph →
-    (other : List ℕ) → (hangs_on graph.patches names other ≡ true) ↔ HangTogether graph names other
+    (other : List ℕ) → (is_one_or_neighbour graph.patches names other ≡ true) ↔ IsConnected graph names other
 
 -- the changes of a side apply, one after the other, to the tree of the branch
 abbrev pub SidesApply : Type 0
@@ -301,7 +301,7 @@ AlongIsEnough =
 -- a call does what was foreseen: it gets the foreseen reply. If no branch was foreseen, nothing changes. If one was,
 -- its questions for tree and conflicts, asked directly after the call, have the foreseen answers, and exactly the
 -- foreseen conflicts become unresolved, or no longer are.
-pub record ComesAsForeseen (state : Contents) (asked : Call) (seen : Foreseen) : Type 0 where
+pub record HappensAsForeseen (state : Contents) (asked : Call) (seen : Foreseen) : Type 0 where
   pub replied : reply_of (step state asked) ≡ seen.reply
   pub stays : seen.changed ≡ None → state_after_decision state (step state asked) ≡ state
   pub changed :
@@ -310,9 +310,9 @@ pub record ComesAsForeseen (state : Contents) (asked : Call) (seen : Foreseen) :
       ≡ seen.reply ∷ reply.Tree standing.tree ∷ reply.Conflicts standing.conflicts ∷ []
   pub unresolved :
       (standing : BranchState) → seen.changed ≡ Some standing → (before after : List (List ℕ × List ℕ)) →
-      AreOpenThere state standing.branch before → AreOpen (state_after_decision state (step state asked)) standing.branch (Ok after) →
+      AreUnresolvedAt state standing.branch before → AreUnresolved (state_after_decision state (step state asked)) standing.branch (Ok after) →
       (standing.opened ≡ pairs_without before after) × (standing.resolved ≡ pairs_without after before)
 
 -- every call at every state does what was foreseen
-abbrev pub ForeseenComes : Type 0
-ForeseenComes = (state : Contents) (asked : Call) (seen : Foreseen) → Foresees state asked seen → ComesAsForeseen state asked seen
+abbrev pub ForeseenHappens : Type 0
+ForeseenHappens = (state : Contents) (asked : Call) (seen : Foreseen) → Foresees state asked seen → HappensAsForeseen state asked seen

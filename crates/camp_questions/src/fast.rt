@@ -7,13 +7,13 @@
 //! - A patch of plain changes moves unchanged in front of patches to be taken out that change other files. Files are
 //! compared by small hashes of their paths.
 mod changed_files;
-mod going;
+mod independence;
+mod inverting;
 mod patch_catches;
 mod reaching;
-mod standing_aside;
-mod taking_back;
+mod taken_out;
 
+pub(crate) use independence::dependents_by_pass;
+pub(crate) use inverting::inverted_patches;
 pub(crate) use patch_catches::{PatchCatches, by_patch};
 pub(crate) use reaching::all_reached;
-pub(crate) use standing_aside::held_in;
-pub(crate) use taking_back::taken_back;

@@ -82,7 +82,7 @@ fn stays_from(changes: &[Named], x: &Contexted) -> usize
     ensures added { AddsAll (drop result changes.now) x.now x.now }
 {
     for at in (0..changes.len()).rev() {
-        if !x.stays_behind(&changes[at]) {
+        if !x.stays_unchanged(&changes[at]) {
             return at + 1;
         }
     }

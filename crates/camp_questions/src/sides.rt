@@ -8,7 +8,7 @@ ghost use Rattle.camp_prim.specs.declared.labels.Key.{Key as AnyKey};
 ghost use Rattle.camp_prim.specs.declared.named.Named.{Named as AnyNamed};
 ghost use Rattle.camp_seq.specs.Running.{inverse_all};
 ghost use Rattle.camp_questions.specs.Answers.{ReportsAnswerOrMemory};
-ghost use Rattle.camp_questions.specs.Inside.Seeing.{AllSeenToo, ComesIfNamed, SeenToo};
+ghost use Rattle.camp_questions.specs.Inside.Seeing.{AllGathered, AppendsIfNamed, IsGathered};
 ghost use Rattle.camp_questions.specs.Showing.{changes_in};
 ghost use Rattle.camp_questions.specs.Sides.{AreSeen, AppendsNew, IsSide, IsSideAmong, IsSideIn, has_key, contexted_in};
 
@@ -29,11 +29,11 @@ use std::slice;
 
 /// The side of a patch in conflict.
 #[derive(Drop)]
-pub struct Said {
+pub struct SideChanges {
     changes: Vec<Primitive>,
 }
 
-impl Model for Said {
+impl Model for SideChanges {
     ghost use Rattle.std.specs.Prelude.{List};
     ghost use Rattle.camp_prim.specs.declared.primitives.Primitive.{Primitive};
 
@@ -42,7 +42,7 @@ impl Model for Said {
     ghost view = { λ said. said.changes.items };
 }
 
-impl Said {
+impl SideChanges {
     /// Returns the changes that apply the patch at the end of the branch, in order. They may be more than 64, the most
     /// of one patch.
     pub fn changes(&self) -> &[Primitive]
@@ -60,20 +60,20 @@ impl Said {
 }
 
 /// Returns the side of a patch in a branch; empty if the patch is in no conflict.
-pub fn side(state: &State, branch: &Name, name: &Name) -> Result<Said, Unanswered>
+pub fn side(state: &State, branch: &Name, name: &Name) -> Result<SideChanges, Unanswered>
     ensures exact { ReportsAnswerOrMemory (IsSide state.now branch.now name.now) result }
 {
     let branch = branch_with(state, branch, slice::from_ref(name))?;
-    answer_or_memory(said_in(branch, name))
+    answer_or_memory(side_in_branch(branch, name))
 }
 
 /// Makes the side of a patch, which the branch has.
-fn said_in(branch: &Branch, name: &Name) -> Result<Said, AllocError>
+fn side_in_branch(branch: &Branch, name: &Name) -> Result<SideChanges, AllocError>
     ensures { IfOk result (λ changes. (side : List AnyNamed) × (changes ≡ changes_in side) × IsSideIn branch.now name.now side) }
 {
     let side = side_in(branch, name)?;
     let changes = changes_in(branch.catches().allocator(), side.items())?;
-    Ok(Said { changes })
+    Ok(SideChanges { changes })
 }
 
 /// Returns the side of a patch in a branch.
@@ -95,7 +95,7 @@ pub(crate) fn labels_seen(branch: &Branch) -> Result<CtxSet, AllocError>
     let mut seen = CtxSet::empty(alloc);
     for at in (0..catches.len()).rev() {
         let catch = &catches[at];
-        seen = with_told(alloc, seen, catch, &undone)?;
+        seen = with_labels_of(alloc, seen, catch, &undone)?;
         append_inverse(&mut undone, catch.effect())?;
     }
     Ok(seen)
@@ -103,9 +103,14 @@ pub(crate) fn labels_seen(branch: &Branch) -> Result<CtxSet, AllocError>
 
 /// Returns the labels in conflict gathered so far, with those of one more catch; `undone` has the inverses of the
 /// effects after it.
-fn with_told(alloc: Global, seen: CtxSet, catch: &Catch, undone: &Seq) -> Result<CtxSet, AllocError>
+fn with_labels_of(
+    alloc: Global,
+    seen: CtxSet,
+    catch: &Catch,
+    undone: &Seq,
+) -> Result<CtxSet, AllocError>
     ensures { IfOk result (λ next. (key : AnyKey) →
-        SeenToo undone.now (get seen key) (contexted_in catch.now key) (get next key)) }
+        IsGathered undone.now (get seen key) (contexted_in catch.now key) (get next key)) }
 {
     match catch {
         Catch::Plain(_) => Ok(seen),
@@ -120,7 +125,7 @@ fn with_conflictor(
     undone: &Seq,
 ) -> Result<CtxSet, AllocError>
     ensures { IfOk result (λ next. (key : AnyKey) →
-        SeenToo undone.now (get was key) (contexted_in (catch.Conflictor k.now) key) (get next key)) }
+        IsGathered undone.now (get was key) (contexted_in (catch.Conflictor k.now) key) (get next key)) }
 {
     let mut seen = with_label(alloc, was, &k.identity, undone)?;
     for index in 0..k.conflicts.len() {
@@ -138,7 +143,7 @@ fn with_label(
     x: &Contexted,
     undone: &Seq,
 ) -> Result<CtxSet, AllocError>
-    ensures { IfOk result (AllSeenToo undone.now (x.now ∷ []) seen) }
+    ensures { IfOk result (AllGathered undone.now (x.now ∷ []) seen) }
 {
     if is_seen(&seen, &x.key()) {
         return Ok(seen);
@@ -178,7 +183,7 @@ pub(crate) fn side_among(alloc: Global, seen: &CtxSet, name: &Name) -> Result<Se
 
 /// Appends a contexted patch to changes if it belongs to the patch of a name.
 fn append_named(side: &mut Seq, name: &Name, x: &Contexted) -> Result<(), AllocError>
-    ensures { OnOk result (ComesIfNamed side.old name.now x.now side.new) }
+    ensures { OnOk result (AppendsIfNamed side.old name.now x.now side.new) }
 {
     if name != x.name() {
         return Ok(());

@@ -10,7 +10,7 @@ use Rattle.camp_repo.specs.Limits.{Bounds}
 use Rattle.camp_repo.specs.Objects.{repository_within}
 use Rattle.camp_repo.specs.States.{Contents}
 use Rattle.camp_run.specs.Serial.{IsSerial}
-use Rattle.camp_script.specs.Keeping.{CanStand, calls_of, kept_text}
+use Rattle.camp_script.specs.Keeping.{CanBeInScript, calls_of, kept_text}
 use Rattle.camp_script.specs.Sections.{most_writing_calls}
 use Rattle.camp_script.specs.Reading.{script_of}
 
@@ -33,7 +33,7 @@ pub record LeadsBack (limits : Bounds) (history : List (ℕ × Call)) (state : C
 -- the same for each legal history of at most 65,536 calls that scripts can contain
 abbrev pub KeptLeadsBack : Type 0
 KeptLeadsBack = (limits : Bounds) (history : List (ℕ × Call)) (state : Contents) → replay (repository_within limits) history ≡ Some state
-    → AllByRecursion CanStand (calls_of history) → length history ≤ most_writing_calls → LeadsBack limits history state
+    → AllByRecursion CanBeInScript (calls_of history) → length history ≤ most_writing_calls → LeadsBack limits history state
 
 -- the text of a history is a script, and a new repository with these limits that is asked its calls has exactly this
 -- history
@@ -44,5 +44,5 @@ pub record ReadsBackExactly (limits : Bounds) (history : List (ℕ × Call)) : T
 -- the same for each such history whose calls are all at seat 0
 abbrev pub SeatZeroIsPreserved : Type 0
 SeatZeroIsPreserved = (limits : Bounds) (history : List (ℕ × Call)) (state : Contents) → replay (repository_within limits) history ≡ Some state
-    → AllByRecursion CanStand (calls_of history) → length history ≤ most_writing_calls
+    → AllByRecursion CanBeInScript (calls_of history) → length history ≤ most_writing_calls
     → AllByRecursion (λ entry. entry.0 ≡ 0) history → ReadsBackExactly limits history

@@ -11,8 +11,8 @@ use Rattle.camp_script.specs.Lines.{words_of}
 use Rattle.camp_script.specs.Pieces.{NumberedLine, Entry, begins_edit, begins_with, ends_body, ends_group, line_entries, numbered, up_to}
 use Rattle.camp_script.specs.Reading.{script_of_lines}
 use Rattle.camp_script.specs.declared.command_lines.CommandLines.{CommandLines}
-use Rattle.camp_script.specs.declared.cuts.Wanted.{Wanted}
-use Rattle.camp_script.specs.declared.cuts.Wanted.TheVariants.{Nothing, Body, Group, GroupBody}
+use Rattle.camp_script.specs.declared.grouping.Expected.{Expected}
+use Rattle.camp_script.specs.declared.grouping.Expected.TheVariants.{Nothing, Body, Group, GroupBody}
 use Rattle.camp_script.specs.declared.faults.LineFault.{LineFault}
 use Rattle.camp_script.specs.declared.faults.ScriptFault.{ScriptFault}
 
@@ -36,14 +36,14 @@ abbrev pub taken : List ℕ → List (List ℕ) → List (List ℕ)
 taken first lines = map (λ line. line.bytes) (taken_by (command_of 1 (words_of first)) (numbered 2 lines))
 
 -- whether the next line belongs to the command
-abbrev pub wants : Wanted → Bool
+abbrev pub wants : Expected → Bool
 wants Nothing = false
 wants Body = true
 wants Group = true
 wants GroupBody = true
 
 -- the kind of lines that follow after one more line: a body ends with `end`, and a group with `done`
-abbrev pub wanted_after : Wanted → List ℕ → Wanted
+abbrev pub wanted_after : Expected → List ℕ → Expected
 wanted_after Nothing line = Nothing
 wanted_after Body line = if bytes_eq line (codes "end") then Nothing else Body
 wanted_after GroupBody line = if bytes_eq line (codes "end") then Group else GroupBody
@@ -52,7 +52,7 @@ wanted_after Group line =
     else (if begins_with (codes "done") (words_of line) then Nothing else Group)
 
 -- of these lines, those that belong to the command
-abbrev pub wanted_lines : Wanted → List (List ℕ) → List (List ℕ)
+abbrev pub wanted_lines : Expected → List (List ℕ) → List (List ℕ)
 wanted_lines wanted [] = []
 wanted_lines wanted (line ∷ lines) = if wants wanted then line ∷ wanted_lines (wanted_after wanted line) lines else []
 

@@ -13,7 +13,7 @@ use crate::lines::{Words, first_words, is_comment};
 use crate::readings::Reading;
 use crate::records::{OpenEdit, OpenRecord, WholeFile};
 use crate::words::{
-    name_at, names_at, no_words, number_at, one_word, path_at, test_names, three_words, two_words,
+    check_names, name_at, names_at, no_words, number_at, one_word, path_at, three_words, two_words,
 };
 use camp_base::{Name, Path};
 use camp_call::{Call, Changes, Names};
@@ -63,7 +63,7 @@ impl Reading {
     ) -> Result<(), ScriptFault>
         ensures { Advances result self.new (after_parsed_command number self.old (command number word.now words.entry)) }
     {
-        let asked = self.asked_by(number, word, words)?;
+        let asked = self.parse_command(number, word, words)?;
         self.take_command(number, asked)
     }
 
@@ -73,7 +73,7 @@ impl Reading {
         ensures { Advances result self.new (after_command number self.old (command_parsed asked)) }
     {
         match asked {
-            ParsedLine::Call(call) => self.follow(number, call),
+            ParsedLine::Call(call) => self.append_call(number, call),
             ParsedLine::Section => self.next_section(number),
             ParsedLine::Group { branch, name } => self.begin_group(number, branch, name),
             ParsedLine::Edit {
@@ -88,7 +88,7 @@ impl Reading {
     fn begin_group(&mut self, number: u64, branch: Name, name: Name) -> Result<(), ScriptFault>
         ensures { Advances result self.new (after_command number self.old (command.BeginGroup branch name)) }
     {
-        self.test_room(number)?;
+        self.check_limit(number)?;
         let changes = Vec::new(self.allocator());
         self.with_record(OpenRecord {
             branch,
@@ -112,7 +112,7 @@ impl Reading {
         requires { 1 ≤ line }
         ensures { Advances result self.new (after_command number self.old (command.BeginEdit branch name path line)) }
     {
-        self.test_room(number)?;
+        self.check_limit(number)?;
         let alloc = self.allocator();
         let open_edit = Some(OpenEdit {
             path,
@@ -133,7 +133,7 @@ impl Reading {
     }
 
     // Parses a command from its first word and the others.
-    fn asked_by(
+    fn parse_command(
         &self,
         number: u64,
         word: &[u8],
@@ -220,7 +220,7 @@ impl Reading {
         let branch = name_at(number, branch)?;
         let name = name_at(number, name)?;
         let path = path_at(self.allocator(), number, path)?;
-        self.test_room(number)?;
+        self.check_limit(number)?;
         let changes = one_change(self.allocator(), file.at(path?))?;
         Ok(ParsedLine::Call(Call::Record {
             branch,
@@ -241,9 +241,9 @@ impl Reading {
     {
         let branch = name_at(number, branch)?;
         let name = name_at(number, name)?;
-        let path = self.path_again(number, path)?;
+        let path = self.parse_path_shared(number, path)?;
         let line = number_at(number, line)?;
-        self.test_room(number)?;
+        self.check_limit(number)?;
         Ok(ParsedLine::Edit {
             branch,
             name,
@@ -263,8 +263,8 @@ impl Reading {
         };
         let from = name_at(number, from)?;
         let to = name_at(number, to)?;
-        test_names(number, words.again())?;
-        self.test_room(number)?;
+        check_names(number, words.duplicate())?;
+        self.check_limit(number)?;
         let names = names_at(self.allocator(), number, words)?;
         let names = names_or_all(names);
         Ok(ParsedLine::Call(Call::Pull { from, to, names }))
@@ -276,12 +276,12 @@ impl Reading {
         let Some(branch) = words.next() else {
             return Err(at_line(number, FaultKind::WrongNumberOfWords));
         };
-        if words.again().next().is_none() {
+        if words.duplicate().next().is_none() {
             return Err(at_line(number, FaultKind::WrongNumberOfWords));
         }
         let branch = name_at(number, branch)?;
-        test_names(number, words.again())?;
-        self.test_room(number)?;
+        check_names(number, words.duplicate())?;
+        self.check_limit(number)?;
         let names = names_at(self.allocator(), number, words)?;
         Ok(ParsedLine::Call(Call::Obliterate { branch, names }))
     }

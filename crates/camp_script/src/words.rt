@@ -91,7 +91,7 @@ pub fn names_at(alloc: Global, number: u64, words: Words<'_>) -> Result<Names, S
 }
 
 /// Checks that words are names; does not allocate.
-pub(crate) fn test_names(number: u64, words: Words<'_>) -> Result<(), ScriptFault>
+pub(crate) fn check_names(number: u64, words: Words<'_>) -> Result<(), ScriptFault>
     ensures passed { IfOk result (λ _. (names : List (List ℕ)) × (names_at number words.entry ≡ Ok names)) }
     ensures given { IfErr result (λ fault. IsFaultFirst fault (names_at number words.entry)) }
     ensures told { IfErr result (λ fault. fault ≢ ScriptFault.Memory) }

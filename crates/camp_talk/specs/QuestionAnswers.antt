@@ -19,9 +19,9 @@ use Rattle.camp_questions.specs.Files.{IsFile, branch_names}
 use Rattle.camp_questions.specs.Foresight.{Foresees}
 use Rattle.camp_questions.specs.GraphTexts.{graph_text}
 use Rattle.camp_questions.specs.Marks.{AreMarked}
-use Rattle.camp_questions.specs.OpenConflicts.{AreOpen}
+use Rattle.camp_questions.specs.OpenConflicts.{AreUnresolved}
 use Rattle.camp_questions.specs.Pictures.{IsPictured, Picture}
-use Rattle.camp_questions.specs.Places.{File as MarkedFile, MarkedHunk}
+use Rattle.camp_questions.specs.MarkHunks.{File as MarkedFile, MarkedHunk}
 use Rattle.camp_questions.specs.Showing.{IsShown, PatchContents}
 use Rattle.camp_questions.specs.Sides.{IsSide}
 use Rattle.camp_questions.specs.declared.annotations.Annotated.{Annotated}
@@ -167,7 +167,7 @@ AnswersQuestionAt history state (question.Annotate branch path) text =
     RendersAnswer annotated_answer (AreAnnotated state branch path) text
 AnswersQuestionAt history state (question.Along from to names) text =
     RendersAnswer (names_answer (codes "along")) (AreAlong state from to names) text
-AnswersQuestionAt history state (question.Open branch) text = RendersAnswer open_answer (AreOpen state branch) text
+AnswersQuestionAt history state (question.Open branch) text = RendersAnswer open_answer (AreUnresolved state branch) text
 AnswersQuestionAt history state (question.Side branch name) text = RendersAnswer side_answer (IsSide state branch name) text
 AnswersQuestionAt history state (question.Marks branch path) text = RendersAnswer marks_answer (AreMarked state branch path) text
 AnswersQuestionAt history state (question.File branch path) text = RendersAnswer file_answer (IsFile state branch path) text

@@ -8,7 +8,7 @@ ghost use Rattle.camp_talk.specs.QuestionAnswers.{conflict_hunk_text, marked_lin
 use crate::answer_parts::{append_parts, counted_text, unanswered};
 use crate::file_answers::no_file;
 use camp_base::Name;
-use camp_questions::{Marked, MarkedFile, MarkedHunk, Said, Unanswered, Version};
+use camp_questions::{Marked, MarkedFile, MarkedHunk, SideChanges, Unanswered, Version};
 use camp_repo::Conflicts;
 use camp_script::{append_lines, append_pairs, changes_text};
 use itoa::Buffer;
@@ -49,7 +49,7 @@ fn pairs_text(alloc: Global, pairs: &[(Name, Name)]) -> Result<Vec<u8>, AllocErr
 /// Renders the changes of the side of a patch.
 pub(crate) fn render_side(
     alloc: Global,
-    found: Result<Said, Unanswered>,
+    found: Result<SideChanges, Unanswered>,
 ) -> Result<Vec<u8>, AllocError>
     ensures { IfOk result (λ text. RendersFound side_answer found text.items) }
 {

@@ -12,7 +12,7 @@ use crate::names_answers::{render_branches, render_found};
 use crate::show_answers::render_shown;
 use crate::what_if_answers::render_foreseen;
 use camp_questions::{
-    along, annotate, file, held_by, marks, missing, needs, open_pairs, picture_of, show, side,
+    along, annotate, file, held_by, marks, missing, needs, picture_of, show, side, unresolved_pairs,
 };
 use camp_repo::{Book, Call, State};
 use camp_script::{history_text, kept_text};
@@ -53,7 +53,7 @@ pub(crate) fn answer_at(
         Question::Along { from, to, names } => {
             render_found(alloc, "along", along(state, from, to, names.as_slice()))
         }
-        Question::Open(branch) => render_open(alloc, open_pairs(state, branch)),
+        Question::Open(branch) => render_open(alloc, unresolved_pairs(state, branch)),
         Question::Side { branch, name } => render_side(alloc, side(state, branch, name)),
         Question::Marks { branch, path } => render_marks(alloc, marks(state, branch, path)),
         Question::File { branch, path } => render_file(alloc, file(state, branch, path)),

@@ -14,7 +14,7 @@ use Rattle.camp_call.specs.declared.replies.Reply.{Reply}
 use Rattle.camp_call.specs.declared.replies.Reply.TheVariants as reply
 use Rattle.camp_repo.specs.Laws.{Has, Pulls}
 use Rattle.camp_repo.specs.States.{Contents, catches_of}
-use Rattle.camp_questions.specs.Along.{ComesAlong}
+use Rattle.camp_questions.specs.Along.{AreNamesToPull}
 use Rattle.camp_questions.specs.Answers.{AnswerOf, OfBranch, OfPatches}
 use Rattle.camp_questions.specs.Dependencies.{HeldBy}
 use Rattle.camp_questions.specs.Showing.{patch_in}
@@ -37,7 +37,7 @@ pub record PullsAlong (state : Contents) (from to : List ℕ) (names : List (Lis
   pub ours : List Catch
   pub to_has : Has state to ours
   pub told : List (List ℕ)
-  pub comes : ComesAlong theirs ours names told
+  pub comes : AreNamesToPull theirs ours names told
   pub pulls : Pulls from to (Some told) state next
   pub new : List Catch
   pub becomes : Has next to new

@@ -24,8 +24,8 @@ pub record JoinedAfter (t s : List Named) (k : Conflictor) (l : ContextedPatch) 
   pub is : made ≡ joined_by l moved
 
 -- from (r, Y, l) and i comes (s, Y and i', l), where t added to i gives i'
-abbrev pub JoinedBySeen : List Named → ContextedPatch → Conflictor → Conflictor → Type 0
-JoinedBySeen t i k made = (i' : ContextedPatch) × AddsAll t i i' × (made ≡ joined_by i' k)
+abbrev pub JoinedByAdded : List Named → ContextedPatch → Conflictor → Conflictor → Type 0
+JoinedByAdded t i k made = (i' : ContextedPatch) × AddsAll t i i' × (made ≡ joined_by i' k)
 
 -- from (common rr, X, i) and then (s, Y, l), where rr s <-> s' rr', come (common s', Z', l') and rr'; Z is Y without
 -- the patch of the first conflictor, and rr' added to Z and l gives Z' and l'

@@ -26,16 +26,16 @@ abbrev pub LacksLabels : List Named → List Named → Type 0
 LacksLabels s t = AllByRecursion (λ p. has_label t (label_of p) ≡ false) s
 
 -- two primitives change different files and have different absolute labels
-pub record Elsewhere (p q : Named) : Type 0 where
+pub record ChangeDifferentFiles (p q : Named) : Type 0 where
   pub paths : path_of p.prim ≢ path_of q.prim
   pub keys : ¬ (SameKey p q)
   pub first : InRange p.prim
   pub second : InRange q.prim
 
 -- a primitive is independent of every element of a list
-abbrev pub IsElsewhere : List Named → Named → Type 0
-IsElsewhere t p = AllByRecursion (Elsewhere p) t
+abbrev pub ChangesOtherFiles : List Named → Named → Type 0
+ChangesOtherFiles t p = AllByRecursion (ChangeDifferentFiles p) t
 
 -- no element of one list changes a file of the other
-abbrev pub AreElsewhere : List Named → List Named → Type 0
-AreElsewhere s t = AllByRecursion (IsElsewhere t) s
+abbrev pub ChangeNoCommonFile : List Named → List Named → Type 0
+ChangeNoCommonFile s t = AllByRecursion (ChangesOtherFiles t) s

@@ -25,7 +25,7 @@ pub(crate) fn linked(r: &[Named], x: &Contexted) -> Result<(usize, Contexted), A
     let context = join(x.allocator(), &r[start..], x.context().items())?;
     let patch = x.patch().try_clone()?;
     let told = are_own_orders_of_chain(context.items(), &patch);
-    let sum = Contexted::told(x.allocator(), context, patch, told)?;
+    let sum = Contexted::with_checks(x.allocator(), context, patch, told)?;
     Ok((start, sum))
 }
 
@@ -78,16 +78,16 @@ fn links(a: &Named, r: &[Named], s: &[Named], patch: &Named) -> bool
     ensures { IsTrue result ↔ Links a.now (r.now ++ s.now) patch.now }
 {
     if let Some(q) = r.first() {
-        return holds(a, q);
+        return is_linked(a, q);
     }
     if let Some(q) = s.first() {
-        return holds(a, q);
+        return is_linked(a, q);
     }
     !can_commute(a, patch)
 }
 
 /// True if two neighbours do not commute and their labels are not inverse.
-fn holds(a: &Named, q: &Named) -> bool
+fn is_linked(a: &Named, q: &Named) -> bool
     ensures { IsTrue result ↔ (¬ (CanCommute a.now q.now) × (label_of q.now ≢ label_of (inverse_of a.now))) }
 {
     q.label() != a.label().opposite() && !can_commute(a, q)

@@ -24,8 +24,8 @@ EndAtOwnIndex all = (k : ℕ) (d : Needed) → k < length all → length (get_or
 
 -- no patch before the index `settled` depends on one at these indexes: `settled` is 0; or no patch has a mark past its
 -- own index, and `settled` is at most the least of these indexes
-abbrev pub AreSettled : Bool → List ℕ → ℕ → Type 0
-AreSettled in_place places settled =
+abbrev pub NoneBeforeDepends : Bool → List ℕ → ℕ → Type 0
+NoneBeforeDepends in_place places settled =
     (settled ≡ 0) ⊎ ((in_place ≡ true) × AllByRecursion (λ place. settled ≤ place) places)
 
 -- a patch with its direct dependencies, in a branch whose patches have these names

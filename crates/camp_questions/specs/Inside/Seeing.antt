@@ -20,13 +20,13 @@ SeenAfter undone None seen = seen ≡ None
 SeenAfter undone (Some x) seen = (y : ContextedPatch) × AddsAll undone x y × (seen ≡ Some y)
 
 -- the contexted patch of a label after one more catch was read; one that was gathered before stays
-abbrev pub SeenToo : List Named → Option ContextedPatch → Option ContextedPatch → Option ContextedPatch → Type 0
-SeenToo undone None told seen = SeenAfter undone told seen
-SeenToo undone (Some x) told seen = seen ≡ Some x
+abbrev pub IsGathered : List Named → Option ContextedPatch → Option ContextedPatch → Option ContextedPatch → Type 0
+IsGathered undone None told seen = SeenAfter undone told seen
+IsGathered undone (Some x) told seen = seen ≡ Some x
 
 -- contexted patches of a list are gathered too, each under its label, unless there is one already
-abbrev pub AllSeenToo : List Named → List ContextedPatch → ContextedPatches → ContextedPatches → Type 0
-AllSeenToo undone told was seen = (key : Key) → SeenToo undone (get was key) (first_with_key key told) (get seen key)
+abbrev pub AllGathered : List Named → List ContextedPatch → ContextedPatches → ContextedPatches → Type 0
+AllGathered undone told was seen = (key : Key) → IsGathered undone (get was key) (first_with_key key told) (get seen key)
 
 -- true: a contexted patch is appended to changes; false: the changes stay as they are
 abbrev pub AppendsIf : Bool → List Named → ContextedPatch → List Named → Type 0
@@ -34,5 +34,5 @@ AppendsIf true changes x next = AppendsNew changes x next
 AppendsIf false changes x next = next ≡ changes
 
 -- a contexted patch is appended to changes if its name is this one
-abbrev pub ComesIfNamed : List Named → List ℕ → ContextedPatch → List Named → Type 0
-ComesIfNamed changes name x next = AppendsIf (bytes_eq name x.patch.name) changes x next
+abbrev pub AppendsIfNamed : List Named → List ℕ → ContextedPatch → List Named → Type 0
+AppendsIfNamed changes name x next = AppendsIf (bytes_eq name x.patch.name) changes x next

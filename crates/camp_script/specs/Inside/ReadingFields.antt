@@ -61,9 +61,9 @@ abbrev pub IsOpen : List Call → OpenRecord → Type 0
 IsOpen calls begun = MayGrow calls × (length begun.changes.items ≤ most_changes) × HasRoomFor begun.changes.items begun.open_edit
 
 -- the same of the open record, if there is one
-abbrev pub IsAwaited : List Call → Option OpenRecord → Type 0
-IsAwaited calls None = Unit {0}
-IsAwaited calls (Some begun) = IsOpen calls begun
+abbrev pub OpenRecordFits : List Call → Option OpenRecord → Type 0
+OpenRecordFits calls None = Unit {0}
+OpenRecordFits calls (Some begun) = IsOpen calls begun
 
 -- each finished section is within the limit of writing calls, and one more section may follow
 pub record AreClosed (sections : List (List Call)) : Type 0 where
@@ -76,4 +76,4 @@ pub record SectionsAreCounted (reading : Inside) : Type 0 where
   pub closed : AreClosed (map (λ section. section.items) reading.closed.items)
   pub writes : reading.writes ≡ count_by is_writing reading.calls.items
   pub few : count_by is_writing reading.calls.items ≤ most_writing_calls
-  pub awaited : IsAwaited reading.calls.items reading.open_record
+  pub awaited : OpenRecordFits reading.calls.items reading.open_record

@@ -10,8 +10,8 @@ use Rattle.camp_base.specs.Results.{◌>>=◌}
 use Rattle.camp_script.specs.Inside.Progress.{Progress, OpenRecord, OpenEdit, with_record, with_edit, with_open_edit}
 use Rattle.camp_script.specs.Inside.Progress.{with_one_more, record_at, after_call, after_head, after_client}
 use Rattle.camp_script.specs.Inside.Progress.{after_record, after_change, finished}
-use Rattle.camp_script.specs.declared.cuts.Wanted.{Wanted}
-use Rattle.camp_script.specs.declared.cuts.Wanted.TheVariants as want
+use Rattle.camp_script.specs.declared.grouping.Expected.{Expected}
+use Rattle.camp_script.specs.declared.grouping.Expected.TheVariants as want
 use Rattle.camp_script.specs.declared.faults.LineFault.{LineFault}
 
 -- the progress after a line outside groups and bodies, given its meaning
@@ -78,6 +78,6 @@ HasMeaning None bytes = is_skipped (words_of bytes) ≡ false
 HasMeaning (Some begun) bytes = HasMeaningIn begun.open_edit bytes
 
 -- the kind of lines that follow a first line, given the record that it has opened
-abbrev pub wanted_in : Option OpenRecord → Wanted
+abbrev pub wanted_in : Option OpenRecord → Expected
 wanted_in None = want.Nothing
 wanted_in (Some begun) = if begun.grouped then want.Group else want.Body

@@ -19,8 +19,8 @@ pub loop-catch-preserved : goal.loop-catch-preserved
 loop-catch-preserved g c =
     let next = stands_at c.args.list.now c.loop-catch.catch-index c.catch-item.result c.in_ok-catch.catch (omega arith) (c.in_ok-catch.ensures ∙ c.catch-item.is) in
     let is = (rw c.deref.ensures at c.is_of.ensures).0 c.if-not-is_of.false in
-    let written = with_items_is c.loop-catch.rest c.come_before.new.list (c.come_before.auto.list ∙ ap length c.deref_mut.ensures.value ∙ sym c.loop-catch.rest.ok.0) in
-    rw (written, c.in_ok-push-2.ensures.items) (arranged_with_named c.come_before.new.coming (rw next at c.loop-catch.invariant) is (rw (c.in_default.is, c.deref_mut.ensures.value) at c.in_ok-on.ensures.exact))
+    let written = with_items_is c.loop-catch.rest c.commute_before_all.new.list (c.commute_before_all.auto.list ∙ ap length c.deref_mut.ensures.value ∙ sym c.loop-catch.rest.ok.0) in
+    rw (written, c.in_ok-push-2.ensures.items) (arranged_with_named c.commute_before_all.new.coming (rw next at c.loop-catch.invariant) is (rw (c.in_default.is, c.deref_mut.ensures.value) at c.in_ok-on.ensures.exact))
 
 pub returns : goal.returns
 returns g c =
