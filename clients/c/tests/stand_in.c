@@ -36,6 +36,17 @@ size_t camp_answer(camp *repository, uint8_t *buffer, size_t length) {
     return 0;
 }
 
+size_t camp_executed(camp *repository) {
+    (void)repository;
+    return 0;
+}
+
+const uint8_t *camp_answer_bytes(camp *repository, size_t *length) {
+    (void)repository;
+    *length = 0;
+    return NULL;
+}
+
 void camp_close(camp *repository) { repository->is_open = false; }
 
 int32_t camp_look(camp *repository, camp_view *view) {
@@ -56,6 +67,12 @@ size_t camp_view_answer_length(camp_view *view) {
 size_t camp_view_answer(camp_view *view, uint8_t *buffer, size_t length) {
     (void)view, (void)buffer, (void)length;
     return 0;
+}
+
+const uint8_t *camp_view_answer_bytes(camp_view *view, size_t *length) {
+    (void)view;
+    *length = 0;
+    return NULL;
 }
 
 int32_t camp_view_again(camp_view *view, camp_view *other) {

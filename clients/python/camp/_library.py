@@ -9,6 +9,7 @@ from typing import Any, List
 NAME = "libcamp.so"
 # The version of camp that this package is of, and its library has to be of.
 VERSION = "0.1.0"
+# Codes of camp.h. Its others come only of handles that this package does not use, and of limits that it has checked.
 DONE, NOT_OPEN, MEMORY = 0, 1, 2
 
 
@@ -59,8 +60,7 @@ def _load() -> ctypes.CDLL:
     handle = ctypes.POINTER(Handle)
     for kind in ("camp", "camp_view"):
         _declare(library, kind + "_ask", [handle, ctypes.c_char_p, ctypes.c_size_t], ctypes.c_int32)
-        _declare(library, kind + "_answer_length", [handle], ctypes.c_size_t)
-        _declare(library, kind + "_answer", [handle, ctypes.c_char_p, ctypes.c_size_t], ctypes.c_size_t)
+        _declare(library, kind + "_answer_bytes", [handle, ctypes.POINTER(ctypes.c_size_t)], ctypes.c_void_p)
         _declare(library, kind + "_close", [handle], None)
     for name in ("camp_look", "camp_view_again"):
         _declare(library, name, [handle, handle], ctypes.c_int32)
@@ -69,6 +69,7 @@ def _load() -> ctypes.CDLL:
     if found != VERSION:
         raise ImportError("{} is camp {}, and this package is of camp {}: run clients/build, or install the wheel of the same release"
                           .format(library._name, found, VERSION))
+    _declare(library, "camp_executed", [handle], ctypes.c_size_t)
     _declare(library, "camp_open", [handle], ctypes.c_int32)
     _declare(library, "camp_open_with", [handle, ctypes.c_size_t, ctypes.c_size_t], ctypes.c_int32)
     return library

@@ -1,8 +1,8 @@
 //! The value of an open handle.
-ghost use Rattle.std.specs.Prelude.{◌≡◌, Some};
-ghost use Rattle.camp_c.specs.Handles.{AsksRepository, AsksView, answer_of, answer_of_view};
+ghost use Rattle.std.specs.Prelude.{◌≡◌, Some, length};
+ghost use Rattle.camp_c.specs.Handles.{AsksRepository, AsksView, answer_of, answer_of_view, executed_of};
 
-use crate::codes::{CLOSED, DONE, MEMORY};
+use crate::codes::{DONE, MEMORY, WRONG_KIND};
 use camp_session::{Session, View};
 use std::alloc::Global;
 
@@ -23,7 +23,7 @@ impl OpenObject {
                 Ok(()) => DONE,
                 Err(_) => MEMORY,
             },
-            OpenObject::View(_) => CLOSED,
+            OpenObject::View(_) => WRONG_KIND,
         }
     }
 
@@ -36,7 +36,7 @@ impl OpenObject {
                 Ok(()) => DONE,
                 Err(_) => MEMORY,
             },
-            OpenObject::Session(_) => CLOSED,
+            OpenObject::Session(_) => WRONG_KIND,
         }
     }
 
@@ -50,6 +50,27 @@ impl OpenObject {
         }
     }
 
+    /// Sets `at` to the first byte of the answer of a repository, and returns the number of bytes. Of a view `at` is
+    /// unchanged.
+    pub(crate) fn lend_answer(&self, at: &mut *const u8) -> usize
+        ensures { result ≡ length (answer_of (Some self.now)) }
+    {
+        match self {
+            OpenObject::Session(session) => session.lend_answer(at),
+            OpenObject::View(_) => 0,
+        }
+    }
+
+    /// Returns how many commands of the last text of a repository were executed.
+    pub(crate) fn executed(&self) -> usize
+        ensures { result ≡ executed_of (Some self.now) }
+    {
+        match self {
+            OpenObject::Session(session) => session.executed(),
+            OpenObject::View(_) => 0,
+        }
+    }
+
     /// Returns the answer of a view.
     pub(crate) fn answer_of_view(&self) -> &[u8]
         ensures { result.now ≡ answer_of_view (Some self.now) }
@@ -57,6 +78,17 @@ impl OpenObject {
         match self {
             OpenObject::View(view) => view.answer(),
             OpenObject::Session(_) => &[],
+        }
+    }
+
+    /// Sets `at` to the first byte of the answer of a view, and returns the number of bytes. Of a repository `at` is
+    /// unchanged.
+    pub(crate) fn lend_answer_of_view(&self, at: &mut *const u8) -> usize
+        ensures { result ≡ length (answer_of_view (Some self.now)) }
+    {
+        match self {
+            OpenObject::View(view) => view.lend_answer(at),
+            OpenObject::Session(_) => 0,
         }
     }
 }
