@@ -43,7 +43,7 @@ impl AnswerBuffer {
         AnswerBuffer {
             answers: Vec::new(alloc),
             lines: 0,
-            diagnostic: Diagnostic::new(alloc),
+            diagnostic: Diagnostic::new(),
         }
     }
 }

@@ -29,7 +29,7 @@ impl<R: BufRead, W: Write> Prompted<R, W> {
             alloc,
             book,
             lines: 0,
-            diagnostic: Diagnostic::new(alloc),
+            diagnostic: Diagnostic::new(),
             reader: Prompting::new(alloc, reader, prompts),
             writer,
         }

@@ -3,6 +3,7 @@
 
 mod answer_parts;
 mod answers;
+mod cause_reports;
 mod conflict_answers;
 mod diagnostics;
 mod dialogues;
@@ -17,15 +18,17 @@ mod laws;
 mod lines;
 mod loads;
 mod names_answers;
-mod obstacle_reports;
 mod parsing;
+mod plain_texts;
 mod question_answers;
 mod question_words;
 mod questions;
 mod readings;
 mod recovery;
+mod refusal_reports;
 mod refusal_texts;
 mod requests;
+mod responses;
 mod serving;
 mod show_answers;
 mod talks;

@@ -1,16 +1,14 @@
 //! The texts about refusals.
-ghost use Rattle.std.specs.Prelude.{◌≡◌, IfOk};
-ghost use Rattle.std.specs.List.{flat_map};
-ghost use Rattle.camp_talk.specs.Refusals.{cure, reason_number, reasons, refusal_text, saying};
+ghost use Rattle.std.specs.Prelude.{◌≡◌};
+ghost use Rattle.camp_talk.specs.Topics.{reason_number, reasons};
 
 use crate::answer_parts::joined;
 use crate::questions::Reason;
+use camp_repo::Refusal;
 use std::alloc::{AllocError, Global};
 
 /// Renders the meaning of each refusal.
-pub(crate) fn all_sayings(alloc: Global) -> Result<Vec<u8>, AllocError>
-    ensures { IfOk result (λ text. text.items ≡ flat_map saying reasons) }
-{
+pub(crate) fn all_sayings(alloc: Global) -> Result<Vec<u8>, AllocError> {
     let mut text = Vec::new(alloc);
     let reasons = reasons();
     for reason in &reasons {
@@ -20,9 +18,7 @@ pub(crate) fn all_sayings(alloc: Global) -> Result<Vec<u8>, AllocError>
 }
 
 /// Renders the meaning of a refusal, and the hint on it.
-pub(crate) fn refusal_text(alloc: Global, reason: Reason) -> Result<Vec<u8>, AllocError>
-    ensures { IfOk result (λ text. text.items ≡ refusal_text reason) }
-{
+pub(crate) fn reason_text(alloc: Global, reason: Reason) -> Result<Vec<u8>, AllocError> {
     joined(alloc, &[saying(reason).as_bytes(), cure(reason).as_bytes()])
 }
 
@@ -70,10 +66,25 @@ pub(crate) fn reason_number(reason: Reason) -> &'static str
     }
 }
 
+/// Returns the reason of a refusal.
+pub(crate) fn reason_of(refusal: &Refusal) -> Reason {
+    match refusal {
+        Refusal::NoBranch(_) => Reason::NoBranch,
+        Refusal::BranchExists(_) => Reason::BranchExists,
+        Refusal::PatchExists(_) => Reason::PatchExists,
+        Refusal::NoPatch(_) => Reason::NoPatch,
+        Refusal::NothingToDo => Reason::NothingToDo,
+        Refusal::TooLarge => Reason::TooLarge,
+        Refusal::DoesNotApply => Reason::DoesNotApply,
+        Refusal::Depends { .. } => Reason::Depends,
+        Refusal::Diverged(_) => Reason::Diverged,
+        Refusal::NoMerge { .. } => Reason::NoMerge,
+        Refusal::SameBranch(_) => Reason::SameBranch,
+    }
+}
+
 /// Returns the form of a refusal, and its meaning.
-pub(crate) fn saying(reason: Reason) -> &'static str
-    ensures { result.now ≡ saying reason }
-{
+pub(crate) fn saying(reason: Reason) -> &'static str {
     match reason {
         Reason::BadName => "1: a word is not a name; it is reported as the fault bad name\n",
         Reason::BadPath => "2: a word is not a path; it is reported as the fault bad path\n",
@@ -95,9 +106,7 @@ pub(crate) fn saying(reason: Reason) -> &'static str
 }
 
 /// Returns the hint on a refusal.
-pub(crate) fn cure(reason: Reason) -> &'static str
-    ensures { result.now ≡ cure reason }
-{
+pub(crate) fn cure(reason: Reason) -> &'static str {
     match reason {
         Reason::BadName => {
             "A name has 1 to 40 characters of a to z, 0 to 9 and -, and does not begin with -.\n"

@@ -1,15 +1,16 @@
 //! Requests, each of which is a conversation of its own.
 ghost use Rattle.std.specs.Prelude.{◌≡◌, ◌++◌, true, List, IfErr, IfOk, MatchResult, OnOk, ℕ};
 ghost use Rattle.camp_talk.specs.Inside.RequestSteps.{AppendsStep, IsHaltOf};
-ghost use Rattle.camp_talk.specs.Inside.Responses.{answer_or_memory};
+ghost use Rattle.camp_talk.specs.Inside.Responses.{written};
 ghost use Rattle.camp_talk.specs.Requests.{AnswersRequest, AnswersSome, HasCommands, IsUnanswered, one_unless_empty};
 ghost use Rattle.camp_talk.specs.Talks.{HasGrown};
 
 use crate::lines::hold;
+use crate::responses::Response;
 use crate::talks::execute_next;
 use crate::{Diagnostic, TalkFault};
 use camp_repo::{Book, State};
-use std::alloc::{AllocError, Global};
+use std::alloc::Global;
 use std::io::BufRead;
 
 /// Executes a request and appends its answer: that of a conversation of exactly these bytes, which begins at
@@ -36,7 +37,7 @@ pub fn answer_request(
 {
     let mut reader = request;
     let mut lines = 0;
-    let mut diagnostic = Diagnostic::new(alloc);
+    let mut diagnostic = Diagnostic::new();
     *executed = 0;
     loop {
         let after = executed.saturating_add(one_unless_empty(reader));
@@ -106,19 +107,17 @@ fn append_step<R: BufRead>(
 
 // Appends the answer to a command: a text, or out of memory. If it can't be stored, the answer is unchanged;
 // a command that ran out of memory was not executed.
-fn append_response(answer: &mut Vec<u8>, response: &Result<Vec<u8>, AllocError>) -> Result<(), Halt>
+fn append_response(answer: &mut Vec<u8>, response: &Response) -> Result<(), Halt>
     ensures { MatchResult result
-        (λ _. answer.new.items ≡ answer.old.items ++ answer_or_memory response.now)
+        (λ _. answer.new.items ≡ answer.old.items ++ written response.now)
         (λ halt. (answer.new.items ≡ answer.old.items) × IsHaltOf response.now halt) }
 {
+    let Err(_) = hold(answer, response.bytes()) else {
+        return Ok(());
+    };
     match response {
-        Ok(text) => match hold(answer, text) {
-            Ok(()) => Ok(()),
-            Err(_) => Err(Halt::After),
-        },
-        Err(_) => match hold(answer, b"memory\n") {
-            Ok(()) => Ok(()),
-            Err(_) => Err(Halt::Before(TalkFault::Memory)),
-        },
+        Response::Done(_) => Err(Halt::After),
+        Response::Failed { .. } => Err(Halt::After),
+        Response::OutOfMemory => Err(Halt::Before(TalkFault::Memory)),
     }
 }

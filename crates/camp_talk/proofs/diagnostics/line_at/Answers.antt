@@ -3,9 +3,9 @@ use Rattle.std.proofs.lemmas.Iterator.Consumers.{YieldsList-from_first, nth_from
 use Rattle.std.specs.Prelude.{option_map}
 use Rattle.camp_talk.proofs.Words.{◌≡◌, ◌∙◌, ◌-◌, ap, drop, first_of, lines_of, lines_without_end, map, refl, sym, without_end, []}
 use Rattle.camp_talk.proofs.NotDone.{stands_at}
-use Rattle.camp_talk.specs.Reports.{line_at}
-use Rattle.camp_talk.proofs.fault_reports.line_at.Goals.{After-nth}
-use Rattle.camp_talk.proofs.fault_reports.line_at.Goals as goal
+use Rattle.camp_talk.specs.Diagnostics.{line_at}
+use Rattle.camp_talk.proofs.diagnostics.line_at.Goals.{After-nth}
+use Rattle.camp_talk.proofs.diagnostics.line_at.Goals as goal
 
 -- the line at the index
 there : (c : After-nth) → without_end (unwrap_or (option_map (λ line. line.now) c.nth.result) []) ≡ line_at c.args.number (lines_of c.args.command.now)
