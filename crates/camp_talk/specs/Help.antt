@@ -1,6 +1,7 @@
 -- The text of `help`.
 use Rattle.std.specs.Prelude.{ℕ, List, [], ◌∷◌, ◌++◌, codes}
 use Rattle.std.specs.List.{flat_map}
+use Rattle.camp_repo.specs.Limits.{Bounds}
 use Rattle.camp_talk.specs.Pages.{page}
 use Rattle.camp_talk.specs.Refusals.{reasons, refusal_text, saying}
 use Rattle.camp_talk.specs.declared.questions.Topic.{Topic}
@@ -124,8 +125,8 @@ abbrev pub command_text : Topic → List ℕ
 command_text command = summary command ++ details command ++ page (codes "Example:" ∷ []) ++ example command
 
 -- the text about all commands, about all refusals, and about each
-abbrev pub help_text : Topic → List ℕ
-help_text topic.Commands = flat_map summary commands
-help_text topic.Refusals = flat_map saying reasons
-help_text (topic.Refusal reason) = refusal_text reason
-help_text command = command_text command
+abbrev pub help_text : Bounds → Topic → List ℕ
+help_text limits topic.Commands = flat_map summary commands
+help_text limits topic.Refusals = flat_map saying reasons
+help_text limits (topic.Refusal reason) = refusal_text limits reason
+help_text limits command = command_text command

@@ -151,8 +151,8 @@ abbrev pub keep_answer : List (ℕ × Call) → List ℕ
 keep_answer history = counted (codes "keep") (kept_text history)
 
 -- the forms of commands, or the meanings of refusals
-abbrev pub help_answer : Topic → List ℕ
-help_answer topic = counted (codes "help") (help_text topic)
+abbrev pub help_answer : Bounds → Topic → List ℕ
+help_answer limits topic = counted (codes "help") (help_text limits topic)
 
 -- the answer to each question, at the state after a history
 abbrev pub AnswersQuestionAt : List (ℕ × Call) → Contents → Question → List ℕ → Type 0
@@ -178,7 +178,7 @@ AnswersQuestionAt history state (question.WhatIf call) text =
     (seen : Foreseen) × Foresees state call seen × (text ≡ foreseen_answer seen)
 AnswersQuestionAt history state question.History text = text ≡ history_text history
 AnswersQuestionAt history state question.Keep text = text ≡ keep_answer history
-AnswersQuestionAt history state (question.Help topic) text = text ≡ help_answer topic
+AnswersQuestionAt history state (question.Help topic) text = text ≡ help_answer state.limits topic
 
 -- the answer to a question after a history
 abbrev pub AnswersQuestion : Entries → Question → List ℕ → Type 0

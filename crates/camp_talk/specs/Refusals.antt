@@ -1,7 +1,9 @@
 -- The texts about refusals.
 use Rattle.std.specs.Prelude.{ℕ, List, [], ◌∷◌, ◌++◌, codes}
+use Rattle.std.specs.Fmt.{decimal}
 use Rattle.camp_call.specs.declared.replies.Refusal.{Refusal}
 use Rattle.camp_call.specs.declared.replies.Refusal.TheVariants as refusal
+use Rattle.camp_repo.specs.Limits.{Bounds}
 use Rattle.camp_talk.specs.Pages.{page}
 use Rattle.camp_talk.specs.declared.questions.Reason.{Reason}
 use Rattle.camp_talk.specs.declared.questions.Reason.TheVariants as reason
@@ -85,6 +87,18 @@ cure reason.Diverged = page (codes "Obliterate it in one of them, with what depe
 cure reason.NoMerge = page (codes "Pull without RIGHT, or obliterate LEFT in TO first." ∷ [])
 cure reason.SameBranch = page (codes "Name another branch." ∷ [])
 
--- the text about a refusal
-abbrev pub refusal_text : Reason → List ℕ
-refusal_text reason = saying reason ++ cure reason
+-- the hint on a limit that would be exceeded: the limits of the repository
+abbrev pub limits_text : Bounds → List ℕ
+limits_text limits =
+    codes "The limits: 65535 lines in a side of an edit, 1000000 lines in a file, " ++ decimal limits.branches
+    ++ codes " branches\nand " ++ decimal limits.catches
+    ++ codes " changes in a branch. Split the edit or the patch, or obliterate patches.\n"
+
+-- the hint on a refusal, in a repository with these limits
+abbrev pub cure_within : Bounds → Reason → List ℕ
+cure_within limits reason.TooLarge = limits_text limits
+cure_within limits other = cure other
+
+-- the text about a refusal, in a repository with these limits
+abbrev pub refusal_text : Bounds → Reason → List ℕ
+refusal_text limits reason = saying reason ++ cure_within limits reason

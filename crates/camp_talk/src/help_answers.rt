@@ -7,22 +7,27 @@ ghost use Rattle.camp_talk.specs.QuestionAnswers.{help_answer};
 use crate::Topic;
 use crate::answer_parts::{counted_text, joined};
 use crate::refusal_texts::{all_sayings, refusal_text};
+use camp_repo::Limits;
 use std::alloc::{AllocError, Global};
 
-/// Renders the forms of commands, or the meanings of refusals.
-pub(crate) fn render_help(alloc: Global, topic: Topic) -> Result<Vec<u8>, AllocError>
-    ensures { IfOk result (λ text. text.items ≡ help_answer topic) }
+/// Renders the forms of commands, or the meanings of refusals in a repository with these limits.
+pub(crate) fn render_help(
+    alloc: Global,
+    limits: Limits,
+    topic: Topic,
+) -> Result<Vec<u8>, AllocError>
+    ensures { IfOk result (λ text. text.items ≡ help_answer limits topic) }
 {
-    counted_text(alloc, "help", help_text(alloc, topic))
+    counted_text(alloc, "help", help_text(alloc, limits, topic))
 }
 
-fn help_text(alloc: Global, topic: Topic) -> Result<Vec<u8>, AllocError>
-    ensures { IfOk result (λ text. text.items ≡ help_text topic) }
+fn help_text(alloc: Global, limits: Limits, topic: Topic) -> Result<Vec<u8>, AllocError>
+    ensures { IfOk result (λ text. text.items ≡ help_text limits topic) }
 {
     match topic {
         Topic::Commands => all_summaries(alloc),
         Topic::Refusals => all_sayings(alloc),
-        Topic::Refusal(reason) => refusal_text(alloc, reason),
+        Topic::Refusal(reason) => refusal_text(alloc, limits, reason),
         _ => command_text(alloc, topic),
     }
 }

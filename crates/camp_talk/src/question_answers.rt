@@ -64,6 +64,6 @@ pub(crate) fn answer_at(
         Question::WhatIf(call) => render_foreseen(alloc, state, call),
         Question::History => history_text(alloc, history),
         Question::Keep => counted_text(alloc, "keep", kept_text(alloc, history)),
-        Question::Help(topic) => render_help(alloc, *topic),
+        Question::Help(topic) => render_help(alloc, state.limits(), *topic),
     }
 }

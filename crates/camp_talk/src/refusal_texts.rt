@@ -2,9 +2,12 @@
 ghost use Rattle.std.specs.Prelude.{◌≡◌, IfOk};
 ghost use Rattle.std.specs.List.{flat_map};
 ghost use Rattle.camp_talk.specs.Refusals.{cure, reason_number, reasons, refusal_text, saying};
+ghost use Rattle.camp_talk.specs.declared.questions.Reason.TheVariants as reason;
 
 use crate::answer_parts::joined;
 use crate::questions::Reason;
+use camp_repo::Limits;
+use itoa::Buffer;
 use std::alloc::{AllocError, Global};
 
 /// Renders the meaning of each refusal.
@@ -19,11 +22,39 @@ pub(crate) fn all_sayings(alloc: Global) -> Result<Vec<u8>, AllocError>
     Ok(text)
 }
 
-/// Renders the meaning of a refusal, and the hint on it.
-pub(crate) fn refusal_text(alloc: Global, reason: Reason) -> Result<Vec<u8>, AllocError>
-    ensures { IfOk result (λ text. text.items ≡ refusal_text reason) }
+/// Renders the meaning of a refusal, and the hint on it in a repository with these limits.
+pub(crate) fn refusal_text(
+    alloc: Global,
+    limits: Limits,
+    reason: Reason,
+) -> Result<Vec<u8>, AllocError>
+    ensures { IfOk result (λ text. text.items ≡ refusal_text limits reason) }
 {
-    joined(alloc, &[saying(reason).as_bytes(), cure(reason).as_bytes()])
+    match reason {
+        Reason::TooLarge => limits_text(alloc, limits),
+        _ => joined(alloc, &[saying(reason).as_bytes(), cure(reason).as_bytes()]),
+    }
+}
+
+// Renders that a limit would be exceeded, and the limits.
+fn limits_text(alloc: Global, limits: Limits) -> Result<Vec<u8>, AllocError>
+    ensures { IfOk result (λ text. text.items ≡ refusal_text limits reason.TooLarge) }
+{
+    let mut digits = Buffer::new();
+    let branches = digits.format(limits.branches()).as_bytes();
+    let mut digits = Buffer::new();
+    let catches = digits.format(limits.catches()).as_bytes();
+    joined(
+        alloc,
+        &[
+            saying(Reason::TooLarge).as_bytes(),
+            b"The limits: 65535 lines in a side of an edit, 1000000 lines in a file, ",
+            branches,
+            b" branches\nand ",
+            catches,
+            b" changes in a branch. Split the edit or the patch, or obliterate patches.\n",
+        ],
+    )
 }
 
 /// The reasons for refusals, in the order of their numbers.
