@@ -6,9 +6,10 @@ ghost use Rattle.camp_base.specs.Answers.{Finds};
 ghost use Rattle.camp_catch.specs.Arranging.{Align, AlignIsBlocked};
 ghost use Rattle.camp_catch.specs.Catches.{catch_key};
 ghost use Rattle.camp_catch.specs.Inside.InPlace.{ComesFirstInPlace, FirstWithKey, LacksKey};
+ghost use Rattle.camp_catch.specs.Inside.Marks.{mark_number};
 ghost use Rattle.camp_catch.specs.Making.{GivesOrRunsOut};
 
-use crate::fast::{Gaining, all_gaining, all_settled};
+use crate::fast::{Coming, Gaining, all_gaining, all_settled, mark_number};
 use crate::moves::come_before;
 use crate::{Catch, Unmade};
 use camp_prim::Key;
@@ -59,11 +60,11 @@ fn come_first(alloc: Global, list: &mut [Gaining], key: &Key) -> Result<bool, Al
         return Ok(true);
     }
     let (before, from) = list.split_at_mut(at);
-    let mut coming = from[0].settled()?;
+    let mut coming = Coming::new(from[0].settled()?);
     match come_before(before, &mut coming)? {
         Some(_) => Ok(false),
         None => {
-            from[0] = Gaining::new(alloc, coming);
+            from[0] = Gaining::new(alloc, coming.into_catch());
             list[..at + 1].rotate_right(1);
             Ok(true)
         }
@@ -74,16 +75,22 @@ fn come_first(alloc: Global, list: &mut [Gaining], key: &Key) -> Result<bool, Al
 fn place_of(list: &[Gaining], key: &Key) -> Option<usize>
     ensures { MatchOption result (LacksKey key.now list.now) (FirstWithKey key.now list.now) }
 {
+    let number = mark_number(key.name.bytes());
     for (at, catch) in list.iter().enumerate() {
-        if has_key(catch, key) {
+        if has_key(catch, key, number) {
             return Some(at);
         }
     }
     None
 }
 
-fn has_key(catch: &Gaining, key: &Key) -> bool
+/// True if a catch has a label; `number` is that of the label's name.
+fn has_key(catch: &Gaining, key: &Key, number: u64) -> bool
+    requires { number ≡ mark_number key.now.name }
     ensures { IsTrue result ↔ (catch_key catch.now ≡ key.now) }
 {
+    if catch.has_other_name(number) {
+        return false;
+    }
     catch.key() == *key
 }

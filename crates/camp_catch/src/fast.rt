@@ -18,9 +18,11 @@
 //! gains, and make its set once for all of them when another step reads it.
 mod behind;
 mod gaining;
+mod marks;
 mod passing;
 mod unmoved;
 
 pub(crate) use behind::merge_behind_all;
-pub(crate) use gaining::{Gaining, all_gaining, all_settled};
+pub(crate) use gaining::{Coming, Gaining, all_gaining, all_settled};
+pub(crate) use marks::mark_number;
 pub(crate) use unmoved::{commute_as_they_are, merge_as_they_are};

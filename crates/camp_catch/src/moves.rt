@@ -4,7 +4,7 @@ ghost use Rattle.camp_base.specs.Answers.{Changes};
 ghost use Rattle.camp_catch.specs.Arranging.{ComesBefore, StopsAt};
 ghost use Rattle.camp_catch.specs.Inside.InPlace.{CatchesCommuteInPlace};
 
-use crate::fast::{Gaining, commute_as_they_are};
+use crate::fast::{Coming, Gaining, commute_as_they_are};
 use crate::{Catch, commute};
 use camp_prim::Key;
 use camp_share::Shared;
@@ -14,7 +14,7 @@ use std::alloc::{AllocError, Global};
 /// the catch that blocks it, if there is one; both are then partly commuted.
 pub(crate) fn come_before(
     list: &mut [Gaining],
-    coming: &mut Shared<Catch>,
+    coming: &mut Coming,
 ) -> Result<Option<Key>, AllocError>
     ensures exact { IfOk result (λ stopped. MatchOption stopped
         (ComesBefore list.old coming.old coming.new list.new)

@@ -1,12 +1,14 @@
 //! Catches that merge with or commute past others one by one, and gain conflicts on the way.
-ghost use Rattle.std.specs.Prelude.{◌≡◌, IfOk};
+ghost use Rattle.std.specs.Prelude.{◌≡◌, ◌≢◌, IfOk, IsTrue};
 ghost use Rattle.camp_base.specs.Answers.{Changes};
 ghost use Rattle.camp_catch.specs.Catches.{catch_key};
 ghost use Rattle.camp_catch.specs.Inside.InPlace.{CatchesCommuteInPlace, MergesInto, MergesInPlace, with_gained};
+ghost use Rattle.camp_catch.specs.Inside.Marks.{mark_number};
 ghost use Rattle.camp_catch.specs.Inside.Meetings.{MeetAs};
 ghost use Rattle.camp_catch.specs.declared.catches.Catch.{Catch as AnyCatch};
 
 use crate::fast::behind::merge_behind;
+use crate::fast::marks::{Marks, are_apart, marks_of};
 use crate::fast::passing::{Passing, has_no_effect, passing_of};
 use crate::merging_lists::merge_one;
 use crate::moves::commute_in_place;
@@ -23,12 +25,14 @@ use std::marker::Model;
 pub(crate) struct Gaining {
     catch: Shared<Catch>,
     gained: Vec<Contexted>,
+    marks: Marks,
 }
 
 impl Model for Gaining {
     ghost use Rattle.std.specs.Coded.{codes};
     ghost use Rattle.camp_ctx.specs.declared.sets.CtxSet.{the_code as code_of_sets};
     ghost use Rattle.camp_catch.specs.Inside.InPlace.{with_gained};
+    ghost use Rattle.camp_catch.specs.Inside.Marks.{HasMarks};
     ghost use Rattle.camp_catch.specs.declared.catches.Catch.{Catch};
 
     ghost Value = { Catch };
@@ -36,6 +40,45 @@ impl Model for Gaining {
     ghost coded = { Prim.hlevel (codes, code_of_sets) };
 
     ghost view = { λ gaining. with_gained gaining.gained.items gaining.catch };
+
+    ghost invariant = { λ gaining. HasMarks gaining.catch gaining.marks };
+}
+
+/// A catch that is moved past others, and its numbers.
+#[derive(Drop)]
+pub(crate) struct Coming {
+    catch: Shared<Catch>,
+    marks: Marks,
+}
+
+impl Model for Coming {
+    ghost use Rattle.std.specs.Coded.{codes};
+    ghost use Rattle.camp_ctx.specs.declared.sets.CtxSet.{the_code as code_of_sets};
+    ghost use Rattle.camp_catch.specs.Inside.Marks.{HasMarks};
+    ghost use Rattle.camp_catch.specs.declared.catches.Catch.{Catch};
+
+    ghost Value = { Catch };
+
+    ghost coded = { Prim.hlevel (codes, code_of_sets) };
+
+    ghost view = { λ coming. coming.catch };
+
+    ghost invariant = { λ coming. HasMarks coming.catch coming.marks };
+}
+
+impl Coming {
+    pub(crate) fn new(catch: Shared<Catch>) -> Coming
+        ensures { result ≡ catch }
+    {
+        let marks = marks_of(&catch);
+        Coming { catch, marks }
+    }
+
+    pub(crate) fn into_catch(self) -> Shared<Catch>
+        ensures { result ≡ self }
+    {
+        self.catch
+    }
 }
 
 /// The result of a quick check of how two catches of the same state merge.
@@ -55,9 +98,11 @@ impl Gaining {
     pub(crate) fn new(alloc: Global, catch: Shared<Catch>) -> Gaining
         ensures { result ≡ catch }
     {
+        let marks = marks_of(&catch);
         Gaining {
             catch,
             gained: Vec::new(alloc),
+            marks,
         }
     }
 
@@ -106,8 +151,28 @@ impl Gaining {
         }
     }
 
-    /// Commutes with the `k` after it, in place. False if they do not commute.
-    pub(crate) fn let_pass(&mut self, k: &mut Shared<Catch>) -> Result<bool, AllocError>
+    /// True if the number of its patch's name is another one, so that it has another label.
+    pub(crate) fn has_other_name(&self, number: u64) -> bool
+        ensures { IsTrue result → mark_number (catch_key self.now).name ≢ number }
+    {
+        self.marks.patch != number
+    }
+
+    /// Commutes with the `k` after it, in place. False if they do not commute. Plain ones of different patches and
+    /// different files are told apart by their numbers alone.
+    pub(crate) fn let_pass(&mut self, k: &mut Coming) -> Result<bool, AllocError>
+        ensures exact { IfOk result (λ done. Changes CatchesCommuteInPlace (self.old, k.old) done (self.new, k.new)) }
+    {
+        if are_apart(&self.marks, &k.marks) {
+            return Ok(true);
+        }
+        let done = self.let_pass_near(&mut k.catch);
+        k.marks = marks_of(&k.catch);
+        done
+    }
+
+    /// The same for a `k` whose numbers are not known.
+    fn let_pass_near(&mut self, k: &mut Shared<Catch>) -> Result<bool, AllocError>
         ensures exact { IfOk result (λ done. Changes CatchesCommuteInPlace (self.old, k.old) done (self.new, k.new)) }
     {
         let alloc = *self.gained.allocator();
@@ -123,7 +188,9 @@ impl Gaining {
                 if !self.gained.is_empty() {
                     return pass_settled(self, k);
                 }
-                commute_in_place(alloc, &mut self.catch, k)
+                let done = commute_in_place(alloc, &mut self.catch, k);
+                self.marks = marks_of(&self.catch);
+                done
             }
         }
     }

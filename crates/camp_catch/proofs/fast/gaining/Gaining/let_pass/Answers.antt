@@ -1,20 +1,8 @@
-use Rattle.std.proofs.Common.{ap, refl, ◌==◌, ◌∙◌}
-use Rattle.camp_catch.proofs.CommuteSteps.{is_nothing}
-use Rattle.camp_catch.proofs.Gains.{commuted_alone, let_by, let_by_aside}
+use Rattle.camp_catch.proofs.Apart.{apart_pass}
+use Rattle.camp_catch.proofs.Gains.{let_by_aside}
 use Rattle.camp_catch.proofs.fast.gaining.Gaining.let_pass.Goals as goal
 
-pub returns-in-Aside : goal.returns-in-Aside
-returns-in-Aside c =
-    let passes = rw c.in-Aside.is at c.in_ok-passing_of.ensures in
-    record { exact = let_by_aside _ _ _ c.self.inside.gained.items (rw (c.deref.ensures, c.deref-2.ensures) at passes) c.self.view_is }
-
-pub returns-in_ok-push-in-Leaves : goal.returns-in_ok-push-in-Leaves
-returns-in_ok-push-in-Leaves c =
-    let passes = rw c.in-Leaves.is at c.in_ok-passing_of.ensures in
-    record { exact = rw c.in_ok-next-in-Leaves.ensures.exact (let_by _ _ _ _ c.self.inside.gained.items _ _ (rw (c.deref.ensures, c.deref-2.ensures) at passes) c.in_ok-push-in-Leaves.ensures.items c.self.view_is) }
-
-pub returns-else-not-is_empty : goal.returns-else-not-is_empty
-returns-else-not-is_empty c =
-    let gained = c.self.inside.gained.items in
-    let none = is_nothing gained gained _ (c.is_empty.ensures ∙ ap (λ n. n == 0) c.self.inside.gained.ok.0) c.if-not-is_empty.false refl in
-    record { exact = commuted_alone gained _ _ _ _ _ c.commute_in_place.result none c.self.view_is c.commute_in_place.ensures.exact }
+pub returns-then-are_apart : goal.returns-then-are_apart
+returns-then-are_apart c =
+    let passes = apart_pass _ _ _ _ c.self.invariant c.k.invariant (c.are_apart.ensures c.if-are_apart.true) in
+    record { exact = rw c.k.view_is (let_by_aside _ _ _ c.self.inside.gained.items passes c.self.view_is) }
