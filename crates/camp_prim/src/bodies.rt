@@ -1,12 +1,12 @@
 //! The body of a hunk: its path and its two sides, without the line.
-ghost use Rattle.std.specs.Prelude.{◌≡◌, IfOk, length};
+ghost use Rattle.std.specs.Prelude.{◌≡◌, ◌==◌, [], ◌∷◌, ◌++◌, IfOk, OnOk, length};
 ghost use Rattle.camp_prim.specs.Inside.BodyFields.{held_lines};
 
 use camp_base::{Line, Path};
 use camp_share::{Share, Shared};
 use std::alloc::{AllocError, Global};
 use std::marker::Model;
-use std::slice;
+use std::{mem, slice};
 
 /// What a hunk does at whatever line it applies: replaces old lines by new ones in the file at a path.
 #[derive(Debug, Drop)]
@@ -43,6 +43,53 @@ enum Side {
     Many(Vec<Line>),
 }
 
+/// The lines of one side of a hunk, in order. A side of at most one line does not allocate.
+#[derive(Debug, Drop)]
+pub struct SideLines {
+    side: Side,
+}
+
+impl Model for SideLines {
+    ghost use Rattle.std.specs.Prelude.{ℕ, List};
+    ghost use Rattle.camp_prim.specs.Inside.BodyFields.{held_lines};
+
+    ghost Value = { List (List ℕ) };
+
+    ghost view = { λ lines. held_lines lines.side };
+}
+
+impl SideLines {
+    /// Makes a side without lines; does not allocate.
+    pub fn new() -> SideLines
+        ensures exact { result ≡ [] }
+    {
+        SideLines { side: Side::Empty }
+    }
+
+    /// Returns the number of lines.
+    pub fn len(&self) -> usize
+        ensures exact { result ≡ length self.now }
+    {
+        self.side.len()
+    }
+
+    /// True if there is no line.
+    pub fn is_empty(&self) -> bool
+        ensures exact { result ≡ (length self.now == 0) }
+    {
+        self.len() == 0
+    }
+
+    /// Appends a line. The first does not allocate.
+    pub fn push(&mut self, alloc: Global, line: Line) -> Result<(), AllocError>
+        ensures exact { OnOk result (self.new ≡ self.old ++ line ∷ []) }
+    {
+        let side = mem::replace(&mut self.side, Side::Empty);
+        self.side = side.with(alloc, line)?;
+        Ok(())
+    }
+}
+
 impl Model for Body {
     ghost use Rattle.camp_prim.specs.Inside.Replacements.{Replacement};
     ghost use Rattle.camp_prim.specs.Inside.BodyFields.{replacement_of};
@@ -59,6 +106,22 @@ impl Body {
     {
         let held = Held::Own(Vectors { path, old, new });
         Body { held }
+    }
+
+    /// Makes the reference-counted body of a path and two sides.
+    pub(crate) fn of_sides(
+        alloc: Global,
+        path: Path,
+        old: SideLines,
+        new: SideLines,
+    ) -> Result<Body, AllocError>
+        ensures { IfOk result (λ body. body ≡ record { path = path; old = old; new = new }) }
+    {
+        let (old, new) = (old.side, new.side);
+        let parts = Shared::new(alloc, Parts { path, old, new })?;
+        Ok(Body {
+            held: Held::Shared(parts),
+        })
     }
 
     /// Makes the body reference counted. If memory runs out, it is dropped.
@@ -174,6 +237,24 @@ fn copy_lines(lines: &Vec<Line>) -> Result<Vec<Line>, AllocError>
 }
 
 impl Side {
+    fn with(self, alloc: Global, line: Line) -> Result<Side, AllocError>
+        ensures { IfOk result (λ side. held_lines side ≡ held_lines self ++ line ∷ []) }
+    {
+        match self {
+            Side::Empty => Ok(Side::One(line)),
+            Side::One(first) => {
+                let mut lines = Vec::with_capacity(alloc, 2)?;
+                lines.push(first)?;
+                lines.push(line)?;
+                Ok(Side::Many(lines))
+            }
+            Side::Many(mut lines) => {
+                lines.push(line)?;
+                Ok(Side::Many(lines))
+            }
+        }
+    }
+
     fn of(mut lines: Vec<Line>) -> Side
         ensures { held_lines result ≡ lines.items }
     {

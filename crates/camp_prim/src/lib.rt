@@ -12,6 +12,7 @@ mod neighbours;
 mod primitives;
 mod stays;
 
+pub use bodies::SideLines;
 pub use commuting::{both_commute_alike, commute, commute_has_laws, commute_is_unique};
 pub use effect::{applied_is_applies, inverse_leads_back};
 pub use hunks::Hunk;

@@ -17,8 +17,7 @@ use crate::words::{
 };
 use camp_base::{Name, Path};
 use camp_call::{Call, Changes, Names};
-use camp_prim::Primitive;
-use std::alloc::{AllocError, Global};
+use camp_prim::SideLines;
 
 /// The meaning of a command: a call, the record of an edit or of a group, or the section of the next client.
 #[derive(Drop)]
@@ -118,8 +117,8 @@ impl Reading {
             path,
             line,
             opened: number,
-            old: Vec::new(alloc),
-            new: Vec::new(alloc),
+            old: SideLines::new(),
+            new: SideLines::new(),
         });
         self.with_record(OpenRecord {
             branch,
@@ -221,7 +220,7 @@ impl Reading {
         let name = name_at(number, name)?;
         let path = path_at(self.allocator(), number, path)?;
         self.test_room(number)?;
-        let changes = one_change(self.allocator(), file.at(path?))?;
+        let changes = Changes::of_one(file.at(path?));
         Ok(ParsedLine::Call(Call::Record {
             branch,
             name,
@@ -313,18 +312,6 @@ fn branch_at(number: u64, words: &[&[u8]]) -> Result<Name, ScriptFault>
     ensures told { IfErr result (λ fault. fault ≢ ScriptFault.Memory) }
 {
     name_at(number, one_word(number, words)?)
-}
-
-// Makes the changes of a patch of one change.
-fn one_change(alloc: Global, change: Primitive) -> Result<Changes, AllocError>
-    ensures { IfOk result (λ changes. changes ≡ change ∷ []) }
-{
-    let mut changes = Vec::new(alloc);
-    changes.push(change)?;
-    let Some(changes) = Changes::new(changes) else {
-        unreachable!();
-    };
-    Ok(changes)
 }
 
 // Returns the names that a pull lists; without a list it pulls all.

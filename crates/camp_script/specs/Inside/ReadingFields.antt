@@ -18,7 +18,7 @@ use Rattle.camp_script.specs.declared.readings.Reading.TheInside.{Inside}
 
 -- an edit with its sides so far
 abbrev pub edit_so_far : OpenEdit → Edit
-edit_so_far edit = record { path = edit.path; line = edit.line; old = edit.old.items; new = edit.new.items }
+edit_so_far edit = record { path = edit.path; line = edit.line; old = edit.old; new = edit.new }
 
 -- the edit whose body has not ended
 abbrev pub open_edit_of : OpenEdit → progress.OpenEdit
