@@ -15,7 +15,7 @@ use Rattle.camp_repo.proofs.AcceptedSteps.{has_branch, next_is, passes}
 use Rattle.camp_repo.specs.Laws.{ChangesOne}
 use Rattle.camp_repo.specs.Objects.{repository}
 use Rattle.camp_repo.specs.States.{Branches, Contents, catches_of}
-use Rattle.camp_importer.specs.Calling.{AcceptsNext, AnswersCall, ContinuesOn, FailsOn, IsReason, OrFails, RefusesCall, RepositoryBook, branch_in}
+use Rattle.camp_importer.specs.Calling.{AcceptsNext, AnswersCall, ContinuesOn, FailsOn, ComesWithoutCall, IsReason, OrFails, RefusesCall, RepositoryBook, branch_in}
 use Rattle.camp_importer.specs.Steps.{CopiesFirst, StartsFrom}
 use Rattle.camp_importer.specs.declared.faults.Reason.{Reason}
 use Rattle.camp_importer.specs.declared.faults.Reason.TheVariants as reason
@@ -45,10 +45,15 @@ fails_through Makes branch one two why three first fails =
 -- a reason of one kind of calls is one of another kind that has these
 reason_of : (Makes More : Call → Refusal → Type 0) (why : Reason) (book : RepositoryBook) → ((call : Call) (refusal : Refusal) → Makes call refusal → More call refusal) → IsReason Makes why book → IsReason More why book
 reason_of Makes More (reason.Refused refusal) book is reasoned = (reasoned.0, is reasoned.0 refusal reasoned.1, reasoned.2)
-reason_of Makes More reason.Memory book is reasoned = tt
+reason_of Makes More other book is reasoned = reasoned
 
 pub fails_of : (Makes More : Call → Refusal → Type 0) (branch : List ℕ) (old : RepositoryBook) (why : Reason) (new : RepositoryBook) → ((call : Call) (refusal : Refusal) → Makes call refusal → More call refusal) → FailsOn Makes branch old why new → FailsOn More branch old why new
 fails_of Makes More branch old why new is fails = record { only = fails.only; reason = reason_of Makes More why new is fails.reason }
+
+-- a reason that comes without a call
+pub plainly_fails : (Makes : Call → Refusal → Type 0) (branch : List ℕ) (book : RepositoryBook) (why : Reason) → ComesWithoutCall why → FailsOn Makes branch book why book
+plainly_fails Makes branch book (reason.Refused refusal) is = absurd is
+plainly_fails Makes branch book other is = record { only = same_continues branch book book refl; reason = is }
 
 -- a call that changes one branch
 pub one_changes : (branch : List ℕ) (call : Call) (old new : RepositoryBook) (accepts : AcceptsNext call old new) → ChangesOne branch accepts.before accepts.after → ContinuesOn branch old new
@@ -64,6 +69,7 @@ call_fails Makes branch call old new (reason.Refused refusal) makes answers = re
   reason = (call, makes refusal refl, subst (λ (book : RepositoryBook). RefusesCall call refusal book) (sym answers.0) answers.1);
 }
 call_fails Makes branch call old new reason.Memory makes answers = record { only = same_continues branch old new answers; reason = tt }
+call_fails Makes branch call old new other makes answers = absurd answers
 
 other_name : (name other : List ℕ) → other ≢ name → bytes_eq other name ≡ false
 other_name name other differs = false_from_ne_true (bytes_eq other name) (λ same. differs (same_name other name same))

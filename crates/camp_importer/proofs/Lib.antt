@@ -1,4 +1,9 @@
 pub mod BranchLemmas
 pub mod CallLemmas
+pub mod CommitLemmas
+pub mod HistoryLemmas
+pub mod MarkLemmas
+pub mod PartLemmas
 pub mod PullLemmas
 pub mod RecordLemmas
+pub mod TreeLemmas

@@ -13,7 +13,7 @@ use Rattle.camp_repo.specs.Objects.{repository}
 use Rattle.camp_repo.specs.States.{Contents, catches_of}
 use Rattle.camp_repo.specs.Steps.{step}
 use Rattle.camp_importer.specs.declared.faults.Reason.{Reason}
-use Rattle.camp_importer.specs.declared.faults.Reason.TheVariants.{Refused, Memory}
+use Rattle.camp_importer.specs.declared.faults.Reason.TheVariants.{Refused, TooManyChanges, Memory}
 
 -- a book of calls of a repository
 abbrev pub RepositoryBook : Type 0
@@ -49,6 +49,7 @@ abbrev pub AnswersCall : Call → RepositoryBook → Result (Unit {0}) Reason �
 AnswersCall call old (Ok done) new = AcceptsNext call old new
 AnswersCall call old (Err (Refused refusal)) new = (new ≡ old) × RefusesCall call refusal old
 AnswersCall call old (Err Memory) new = new ≡ old
+AnswersCall call old (Err other) new = ⊥
 
 -- what comes of a call that writes: it is accepted or refused, and no other reply comes
 abbrev pub outcome_of : Reply → Result (Unit {0}) Reason
@@ -56,10 +57,22 @@ outcome_of (reply.Done number) = Ok tt
 outcome_of (reply.Refused refusal) = Err (Refused refusal)
 outcome_of other = Err Memory
 
--- a reason holds after the calls of a book: a call is refused so, and it is one that the step makes; or memory runs out
+-- a reason that comes without a call: there are too many changes, or memory runs out
+abbrev pub ComesWithoutCall : Reason → Type 0
+ComesWithoutCall TooManyChanges = Unit {0}
+ComesWithoutCall Memory = Unit {0}
+ComesWithoutCall other = ⊥
+
+-- Ok: a value of this kind; else such a reason
+abbrev pub OrWithoutCall : {A : Type 0} → (A → Type 0) → Result A Reason → Type 0
+OrWithoutCall Is (Ok value) = Is value
+OrWithoutCall Is (Err why) = ComesWithoutCall why
+
+-- a reason holds after the calls of a book: a call is refused so, and it is one that the step makes; or it comes without
+-- a call
 abbrev pub IsReason : (Call → Refusal → Type 0) → Reason → RepositoryBook → Type 0
 IsReason Makes (Refused refusal) book = (call : Call) × Makes call refusal × RefusesCall call refusal book
-IsReason Makes Memory book = Unit {0}
+IsReason Makes other book = ComesWithoutCall other
 
 -- what was accepted before the fault stands, no other branch has changed, and the reason holds
 pub record FailsOn (Makes : Call → Refusal → Type 0) (branch : List ℕ) (old : RepositoryBook) (why : Reason) (new : RepositoryBook)

@@ -12,7 +12,7 @@ use camp_repo::{Book, State};
 /// Brings what the parents of a commit have to a branch: copies the branch of the first parent, unless that
 /// is the branch itself, and pulls all patches of the branches of the others, which may bring nothing. After a
 /// fault the calls that were accepted stand.
-pub fn join_parents(
+pub(crate) fn join_parents(
     book: &mut Book<State>,
     seat: u32,
     branch: &Name,

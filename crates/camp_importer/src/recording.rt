@@ -9,7 +9,7 @@ use camp_base::Name;
 use camp_repo::{Book, Call, Changes, State};
 
 /// Records a patch on a branch: one part of a commit, or all of it.
-pub fn record_patch(
+pub(crate) fn record_patch(
     book: &mut Book<State>,
     seat: u32,
     branch: &Name,

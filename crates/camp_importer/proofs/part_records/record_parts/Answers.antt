@@ -1,0 +1,29 @@
+use Rattle.std.proofs.Common.{◌≡◌, ap, arith, length, length-map, refl, sym}
+use Rattle.camp_import.specs.Parts.{part_name}
+use Rattle.camp_importer.proofs.BranchLemmas.{fails_through, plainly_fails}
+use Rattle.camp_importer.proofs.PartLemmas.{items_of, part_at, part_fails, recorded_end, recorded_on, recorded_start}
+use Rattle.camp_importer.specs.Parts.{RecordsOnePart}
+use Rattle.camp_importer.specs.declared.faults.Reason.TheVariants as reason
+use Rattle.camp_importer.proofs.part_records.record_parts.Goals as goal
+
+pub parts-init : goal.parts-init
+parts-init c = recorded_start c.args.name c.args.branch.now (length (items_of c.args.parts.now)) (items_of c.args.parts.now) c.args.book.now
+
+pub parts-preserved : goal.parts-preserved
+parts-preserved c =
+    let parts = c.args.parts.now in
+    let long : length (items_of parts) ≡ length parts = length-map parts _ in
+    recorded_on c.args.name (part_name c.args.name c.parts.index (length parts)) c.args.branch.now c.parts.index (length (items_of parts)) c.index-parts-index.result.items (items_of parts) c.args.book.now c.parts.book c.record_at.new.book
+    (omega (arith, long)) (part_at parts c.parts.index c.index-parts-index.result (omega arith) c.index-parts-index.is) (ap (part_name c.args.name c.parts.index) (sym long)) c.parts.invariant c.in-Ok.ensures
+
+pub returns-in-Err : goal.returns-in-Err
+returns-in-Err c =
+    let parts = c.args.parts.now in
+    fails_through (RecordsOnePart c.args.name c.args.branch.now) c.args.branch.now c.args.book.now c.parts.book c.in-Err.why c.record_at.new.book c.parts.invariant.only
+    (part_fails c.args.name (part_name c.args.name c.parts.index (length parts)) c.args.branch.now c.parts.index (length parts) c.index-parts-index.result.items c.parts.book c.in-Err.why c.record_at.new.book (omega arith) refl c.in-Err.ensures)
+
+pub returns : goal.returns
+returns c =
+    let parts = c.args.parts.now in
+    let long : length (items_of parts) ≡ length parts = length-map parts _ in
+    recorded_end c.args.name c.args.branch.now c.parts.index (length (items_of parts)) (items_of parts) c.args.book.now c.parts.book (omega (arith, long)) c.parts.invariant
