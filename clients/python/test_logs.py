@@ -42,6 +42,14 @@ class Sqlite(unittest.TestCase):
             self.assertEqual(self.log.length(), 2)
             self.assertTrue(shared.settle())
 
+    def test_what_goes_to_the_log_is_canonical(self):
+        with Shared(self.log) as shared:
+            shared.sync()
+            text = b"record main a group\nadd f\nedit  f 001\n+edit f 01\nend\ndone\nrecord main edit edit f 02\n+b\nend\nbranch 01 main\nobliterate 01 edit\n"
+            self.assertEqual(shared.ask(text), b"ok 1\nok 2\nok 3\nok 4\n")
+            written = b"record main a group\nadd f\nedit f 1\n+edit f 01\nend\ndone\nrecord main edit edit f 2\n+b\nend\nbranch 01 main\nobliterate 01 edit\n"
+            self.assertEqual(b"".join(it.partition(b"\n")[2] for it in self.log.read(1)), written)
+
     def test_a_log_has_the_limits_of_its_title(self):
         path = os.path.join(self.folder.name, "limits.db")
         for title, branches in ((title_with(3, 2), 2), (title_with(9, 9), 2)):
@@ -81,8 +89,9 @@ class Sqlite(unittest.TestCase):
         with contextlib.closing(sqlite3.connect(self.path)) as base:
             base.execute("DELETE FROM entries WHERE at = 2")
             base.commit()
+        self.assertEqual(self.log.read(0), [TITLE, b"x"])
         with self.assertRaises(Damaged) as damaged:
-            self.log.read(0)
+            self.log.read(2)
         self.assertEqual(damaged.exception.index, 2)
 
     def test_a_file_that_is_full_refuses(self):

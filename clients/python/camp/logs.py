@@ -13,7 +13,7 @@ import re
 import sqlite3
 import threading
 import time
-from typing import Dict, List, Optional, Protocol
+from typing import Dict, List, Optional, Protocol, Sequence, Tuple
 
 TITLE = b"camp log 1\n"
 TIMEOUT = 0.5
@@ -96,6 +96,18 @@ class Foreign(Exception):
     """What stands at the address is of another program."""
 
 
+def in_order(index: int, rows: Sequence[Tuple[int, bytes]]) -> List[bytes]:
+    """The entries of rows, each with its index, from an index on and up to the first that is missing; `Damaged` where that is the
+    first of all."""
+    for number, (at, _) in enumerate(rows, index):
+        if at != number and number == index:
+            raise Damaged(index)
+        if at != number:
+            rows = rows[:number - index]
+            break
+    return [bytes(text) for _, text in rows]
+
+
 class SqliteLog:
     """A table of a SQLite file, for the processes of one machine. Each entry is on the disk before it counts."""
 
@@ -148,11 +160,8 @@ class SqliteLog:
         end = time.monotonic() + wait
         while True:
             rows = self._once("SELECT at, text FROM entries WHERE at >= ? ORDER BY at LIMIT 1024", index)
-            for number, row in enumerate(rows, index):
-                if row[0] != number:
-                    raise Damaged(number)
             if rows or time.monotonic() >= end:
-                return [bytes(row[1]) for row in rows]
+                return in_order(index, rows)
             time.sleep(0.001)
 
     def length(self) -> int:

@@ -8,7 +8,7 @@ from typing import List
 import psycopg2
 from psycopg2 import errors
 
-from .logs import TIMEOUT, TITLE, AppendOutcome, Away, Damaged, Foreign
+from .logs import TIMEOUT, TITLE, AppendOutcome, Away, Foreign, in_order
 
 # What ends a statement without a change, for certain: the server has said so, and rolled it back.
 REFUSALS = (errors.DiskFull, errors.ProgramLimitExceeded, errors.DataException, errors.ReadOnlySqlTransaction, errors.InsufficientPrivilege)
@@ -86,11 +86,8 @@ class PostgresLog:
         end = time.monotonic() + wait
         while True:
             rows = self._patiently(lambda cursor: self._rows(cursor, index))
-            for number, (at, _) in enumerate(rows, index):
-                if at != number:
-                    raise Damaged(number)
             if rows or time.monotonic() >= end:
-                return [bytes(entry) for _, entry in rows]
+                return in_order(index, rows)
             self._await(end - time.monotonic())
 
     def _rows(self, cursor, index: int):

@@ -89,7 +89,7 @@ def calls_of(body: bytes) -> List[Tuple[bytes, bytes]]:
 
 
 def canonical(call: bytes) -> bytes:
-    """A call with single spaces, and without the comments of a group: what a log has of it."""
+    """A call with single spaces, plain line numbers, and without the comments of a group: what a log has of it."""
     found, is_body = [], False
     for line in call.split(b"\n")[:-1]:
         words = [it for it in re.split(rb"[ \t]+", line) if it]
@@ -97,8 +97,12 @@ def canonical(call: bytes) -> bytes:
             found.append(line)
             is_body = line != b"end"
         elif words and not words[0].startswith(b"#"):
+            # Where the line number of an edit stands.
+            at = 2 if words[0] == b"edit" else 5 if words[0] == b"record" and words[3:4] == [b"edit"] else None
+            if at and words[at:]:
+                words[at] = words[at].lstrip(b"0") or b"0"
             found.append(b" ".join(words))
-            is_body = b"edit" in (words[0], *words[3:4])
+            is_body = at is not None
     return b"".join(line + b"\n" for line in found)
 
 

@@ -11,7 +11,7 @@ use camp_object::Object;
 use std::alloc::Global;
 
 impl<State: Object> Member<State> {
-    /// ReadsEntry what was found at an index of the log, in order: an entry, or `None` if it is none. What was read
+    /// Reads what was found at an index of the log, in order: an entry, or `None` if it is none. What was read
     /// before is passed over. The requests of the entry under way are answered where it stands. What is
     /// foreign, or an entry of another process with this seat, stops the member. If memory runs out, the
     /// member is as it was.
@@ -30,7 +30,7 @@ impl<State: Object> Member<State> {
         result
     }
 
-    // ReadsEntry what was found at an index.
+    // Reads what was found at an index.
     fn find(
         &mut self,
         alloc: Global,
@@ -85,7 +85,7 @@ impl<State: Object> Member<State> {
         self.has_own(found) && !are_calls_of::<State>(entry.calls(), &self.waiting[..self.sent])
     }
 
-    // ReadsEntry the entry under way, and answers its requests.
+    // Reads the entry under way, and answers its requests.
     fn read_own(
         &mut self,
         alloc: Global,
@@ -112,7 +112,7 @@ impl<State: Object> Member<State> {
         }
     }
 
-    // ReadsEntry an entry of another member, or one that was read before.
+    // Reads an entry of another member, or one that was read before.
     fn read_other(
         &mut self,
         alloc: Global,

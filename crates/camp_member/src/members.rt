@@ -1,5 +1,5 @@
 //! A member of a log: who asks over it, without IO.
-ghost use Rattle.std.specs.Prelude.{◌≡◌, ◌≤◌, ◌++◌, [], ◌∷◌, length, OnOk, OnErr, IfOk, MatchOption};
+ghost use Rattle.std.specs.Prelude.{◌≡◌, ◌≤◌, ◌↔◌, ◌++◌, [], ◌∷◌, false, length, OnOk, OnErr, IfOk, IsTrue, MatchOption};
 ghost use Rattle.camp_object.specs.Histories.{IsLegal, replay};
 ghost use Rattle.camp_object.specs.Objects.{IsFirst, begun};
 
@@ -82,6 +82,26 @@ impl<State: Object> Member<State> {
         ensures within { self.now.sent ≤ length self.now.waiting }
     {
         &self.waiting
+    }
+
+    /// Returns the answers that nobody took, in the order of the requests, each with the number of its request.
+    pub fn answers(&self) -> &[(u64, Result<State::Reply, NoReply>)]
+        ensures exact { result.now ≡ self.now.answers }
+    {
+        &self.answers
+    }
+
+    /// Takes another seat, which nobody else has, unless a request waits. True if it did.
+    pub fn take_seat(&mut self, seat: u128) -> bool
+        ensures takes { IsTrue result → self.new ≡ record self.old { seat = seat } }
+        ensures stays { result ≡ false → self.new ≡ self.old }
+        ensures exact { IsTrue result ↔ (self.old.waiting ≡ []) }
+    {
+        if !self.waiting.is_empty() {
+            return false;
+        }
+        self.seat = seat;
+        true
     }
 
     /// Queues a request after those that wait for an answer.

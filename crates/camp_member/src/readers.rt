@@ -121,7 +121,7 @@ impl<State: Object> Reader<State> {
         }
     }
 
-    /// ReadsEntry what stands at an index of the log: an entry, or `None` if it is none. Returns the reply to each
+    /// Reads what stands at an index of the log: an entry, or `None` if it is none. Returns the reply to each
     /// call of an entry that counts, and nothing for one whose tag counted before. After a fault the reader is
     /// as it was.
     pub fn take(

@@ -1,5 +1,5 @@
 -- What a member of a log of texts finds.
-use Rattle.std.proofs.Common.{◌≡◌, ◌⊎◌, ℕ, ◌+◌, ◌-◌, ◌<◌, List, refl, arith, inl, inr, Result, Ok, Err, Option}
+use Rattle.std.proofs.Common.{◌≡◌, ℕ, ◌+◌, ◌-◌, List, refl, arith, inl, inr, Result, Ok, Err, Option}
 use Rattle.camp_call.specs.declared.calls.Call.{Call}
 use Rattle.camp_entries.specs.Texts.{IsEntryOf}
 use Rattle.camp_member.specs.Entries.{Tagged}

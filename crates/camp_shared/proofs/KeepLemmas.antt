@@ -1,23 +1,21 @@
 -- An entry has room for what a member waits for, after each step of the member.
-use Rattle.std.proofs.Common.{◌≡◌, ◌⊎◌, ℕ, ◌+◌, ◌-◌, ◌^◌, ◌<◌, ◌≤◌, List, [], ◌∷◌, ◌++◌, length, take, refl, sym, ap, subst, ◌∙◌, arith, inl, inr, Result, Ok, Err, OnOk, OnErr, Option, None, Some, MatchOption}
+use Rattle.std.proofs.Common.{◌≡◌, ℕ, ◌+◌, ◌^◌, ◌<◌, ◌≤◌, List, [], ◌∷◌, ◌++◌, length, take, sym, ap, subst, arith, inl, inr, Result, Ok, Err, OnOk, OnErr, Option, None, Some, MatchOption}
 use Rattle.std.specs.List.{AllByRecursion}
 use Rattle.std.proofs.lemmas.List.{take-append-le}
 use Rattle.camp_call.specs.declared.calls.Call.{Call}
 use Rattle.camp_call.specs.declared.replies.Reply.{Reply}
-use Rattle.camp_entries.specs.Texts.{IsNoted, noted_text}
 use Rattle.camp_member.specs.Entries.{Tagged}
-use Rattle.camp_member.specs.Members.{stopped, without_reply}
+use Rattle.camp_member.specs.Members.{without_reply}
 use Rattle.camp_member.specs.Notes.{WithNote}
-use Rattle.camp_member.specs.Readings.{Reading}
 use Rattle.camp_member.specs.Telling.{MemberAdvances}
 use Rattle.camp_member.specs.Wanting.{AfterEnd, FindsAt, FindsEntry}
 use Rattle.camp_member.specs.declared.faults.ReadFault.{ReadFault}
 use Rattle.camp_member.specs.declared.faults.ReadFault.TheVariants.{Foreign, Memory, OutOfOrder}
 use Rattle.camp_member.specs.declared.requests.NoReply.{NoReply}
-use Rattle.camp_member.specs.declared.requests.NoReply.TheVariants.{Ended, Refused}
+use Rattle.camp_member.specs.declared.requests.NoReply.TheVariants.{Refused}
 use Rattle.camp_member.specs.declared.requests.Request.{Request}
 use Rattle.camp_shared.specs.Inside.{CanBeAsked, HasRoomForTexts, bytes_asked}
-use Rattle.camp_shared.specs.Sharing.{Sharing, most_bytes_of_calls, shared_from}
+use Rattle.camp_shared.specs.Sharing.{Sharing, shared_from}
 use Rattle.camp_shared.proofs.RoomLemmas.{all_push, room_alone, room_same}
 
 -- a new member

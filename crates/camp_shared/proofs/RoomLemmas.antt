@@ -1,15 +1,15 @@
 -- An entry has room for what a member is asked.
-use Rattle.std.proofs.Common.{◌≡◌, ◌≢◌, ◌⊎◌, ℕ, Bool, true, false, zero, suc, ◌+◌, ◌-◌, ◌^◌, ◌<◌, ◌≤◌, ◌==◌, if◌then◌else◌, List, [], ◌∷◌, ◌++◌, length, take, map, refl, sym, ap, subst, ◌∙◌, arith, length-append, inl, inr}
+use Rattle.std.proofs.Common.{◌≡◌, ℕ, Bool, true, false, zero, suc, ◌+◌, ◌^◌, ◌<◌, ◌≤◌, ◌==◌, if◌then◌else◌, List, [], ◌∷◌, ◌++◌, length, take, refl, sym, ap, subst, ◌∙◌, arith, length-append}
 use Rattle.std.specs.List.{AllByRecursion, flat_map}
 use Rattle.std.proofs.lemmas.Bool.{eqb-true}
 use Rattle.std.proofs.lemmas.Fmt.{length-decimal-le}
 use Rattle.std.proofs.lemmas.List.Concat.{flat_map-cons}
 use Rattle.camp_call.specs.declared.calls.Call.{Call}
 use Rattle.camp_call.specs.declared.replies.Reply.{Reply}
-use Rattle.camp_entries.specs.Texts.{CanBeLogged, IsNoted, noted_text, text_of_entry, text_of_head}
+use Rattle.camp_entries.specs.Texts.{CanBeLogged, IsNoted, noted_text, text_of_head}
 use Rattle.camp_entries.proofs.HeadLemmas.{head_long, long}
 use Rattle.camp_member.specs.Entries.{IsEntry, Tagged}
-use Rattle.camp_member.specs.Members.{Membership, calls_asked, under_way}
+use Rattle.camp_member.specs.Members.{calls_asked}
 use Rattle.camp_member.specs.Notes.{WithNote}
 use Rattle.camp_member.specs.Telling.{MemberAdvances, requests_in}
 use Rattle.camp_member.specs.declared.requests.NoReply.{NoReply}

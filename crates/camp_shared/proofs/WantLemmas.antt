@@ -1,15 +1,14 @@
 -- What a member of a log of texts wants, and what it keeps.
-use Rattle.std.proofs.Common.{◌≡◌, ◌≢◌, ◌⊎◌, ℕ, zero, suc, ◌+◌, ◌^◌, ◌<◌, ◌≤◌, ◌==◌, if◌then◌else◌, false, List, [], ◌∷◌, ◌++◌, length, take, refl, sym, ap, subst, ◌∙◌, arith, Result, Ok, Err, IfOk}
+use Rattle.std.proofs.Common.{◌≡◌, ℕ, zero, suc, ◌+◌, ◌^◌, ◌<◌, ◌≤◌, ◌==◌, if◌then◌else◌, List, [], ◌∷◌, length, take, refl, sym, ap, subst, ◌∙◌, arith, Result, Ok, Err, IfOk}
 use Rattle.std.specs.List.{AllByRecursion, flat_map}
 use Rattle.camp_call.specs.declared.calls.Call.{Call}
-use Rattle.camp_call.specs.declared.replies.Reply.{Reply}
 use Rattle.camp_entries.specs.Texts.{IsNoted, noted_text}
 use Rattle.camp_member.specs.Entries.{IsEntry, Tagged}
-use Rattle.camp_member.specs.Members.{calls_asked, under_way}
+use Rattle.camp_member.specs.Members.{calls_asked}
 use Rattle.camp_member.specs.Notes.{WithNote, noting}
 use Rattle.camp_member.specs.Readings.{Reading}
 use Rattle.camp_member.specs.Telling.{MemberAdvances}
-use Rattle.camp_member.specs.Wanting.{FitsEntry, IsNeeded, IsStopped, WantsOfLog}
+use Rattle.camp_member.specs.Wanting.{IsNeeded, IsStopped, WantsOfLog}
 use Rattle.camp_member.specs.declared.requests.Request.{Request}
 use Rattle.camp_member.specs.declared.requests.Want.{Want}
 use Rattle.camp_member.specs.declared.requests.Want.TheVariants as want
@@ -21,7 +20,7 @@ use Rattle.camp_shared.specs.Asking.{IsRendered, WantsText}
 use Rattle.camp_shared.specs.declared.wanting.TextWant.{TextWant}
 use Rattle.camp_shared.specs.Inside.{AreFitting, CanBeAsked, HasRoomForTexts, bytes_asked}
 use Rattle.camp_shared.specs.Sharing.{Sharing, most_bytes_of_calls, shared_from}
-use Rattle.camp_shared.proofs.RoomLemmas.{fit_together, noted_first, room_alone, room_same}
+use Rattle.camp_shared.proofs.RoomLemmas.{fit_together, noted_first, room_alone}
 
 -- two advances are one
 pub goes_on : (old mid new : Sharing) → IsLegal (shared_from old.reading.first) old.reading.history → mid.reading ≡ old.reading → mid.is_stopped ≡ old.is_stopped

@@ -1,5 +1,5 @@
 -- What a member of a log of texts does with what it is asked, and with what it finds.
-use Rattle.std.specs.Prelude.{◌≡◌, ◌≢◌, ◌<◌, ◌≤◌, ◌+◌, ◌-◌, ◌⊎◌, ℕ, true, false, List, [], ◌∷◌, ◌++◌, length, Result, Ok, Err, Option, None, Some, IfSome, IsSome}
+use Rattle.std.specs.Prelude.{◌≡◌, ◌≢◌, ◌<◌, ◌≤◌, ◌+◌, ◌-◌, ◌⊎◌, ℕ, true, false, List, [], ◌∷◌, ◌++◌, length, Result, Ok, Err, Option, IfSome, IsSome}
 use Rattle.camp_call.specs.declared.calls.Call.{Call}
 use Rattle.camp_entries.specs.Texts.{CanBeLogged, IsEntryOf, IsNoted, noted_text, text_of_entry}
 use Rattle.camp_member.specs.Entries.{Tagged, IsForeign, number_in}

@@ -3,8 +3,7 @@ use Rattle.std.specs.Prelude.{◌<◌, ◌≤◌, ◌+◌, ◌^◌, ℕ, List, l
 use Rattle.std.specs.List.{AllByRecursion, flat_map}
 use Rattle.camp_call.specs.declared.calls.Call.{Call}
 use Rattle.camp_entries.specs.Texts.{IsNoted, noted_text}
-use Rattle.camp_member.specs.Entries.{most_calls_of_entry}
-use Rattle.camp_member.specs.Members.{calls_asked, under_way}
+use Rattle.camp_member.specs.Members.{calls_asked}
 use Rattle.camp_member.specs.Notes.{WithNote}
 use Rattle.camp_member.specs.declared.requests.Request.{Request}
 use Rattle.camp_shared.specs.Sharing.{Sharing, most_bytes_of_calls}

@@ -1,3 +1,4 @@
 pub mod Asking
 pub mod Inside
+pub mod Laws
 pub mod Sharing

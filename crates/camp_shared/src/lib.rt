@@ -3,10 +3,17 @@
 
 mod faults;
 mod finding;
+mod laws;
 mod members;
+#[cfg(test)]
+mod tests;
 mod wanting;
 
 pub use camp_member::{NoReply, ReadFault};
 pub use faults::{AskFault, OpenFault};
+pub use laws::{
+    accepted_calls_are_answered, each_tag_of_texts_counts_once, members_follow_the_texts,
+    members_share_one_history,
+};
 pub use members::{MAX_CALL_BYTES, SharedRepository};
 pub use wanting::TextWant;

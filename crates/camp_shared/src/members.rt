@@ -1,5 +1,5 @@
 //! A member of a log that shares a repository.
-ghost use Rattle.std.specs.Prelude.{◌≡◌, ◌+◌, ◌++◌, ◌∷◌, [], Some, IfErr, IfOk, MatchOption, OnErr, OnOk};
+ghost use Rattle.std.specs.Prelude.{◌≡◌, ◌↔◌, ◌+◌, ◌++◌, ◌∷◌, [], false, Some, IfErr, IfOk, IsTrue, MatchOption, OnErr, OnOk};
 ghost use Rattle.camp_member.specs.Members.{without_reply};
 ghost use Rattle.camp_member.specs.Telling.{MemberAdvances};
 ghost use Rattle.camp_member.specs.declared.requests.NoReply.TheVariants as no_reply;
@@ -76,6 +76,16 @@ impl SharedRepository {
         ensures exact { replay (shared_from self.now.reading.first) self.now.reading.history ≡ Some result.now }
     {
         self.member.reader().state().state()
+    }
+
+    /// Takes another seat, which nobody else has, unless a request waits: for a process that was forked. True if it
+    /// did.
+    pub fn take_seat(&mut self, seat: u128) -> bool
+        ensures takes { IsTrue result → self.new ≡ record self.old { seat = seat } }
+        ensures stays { result ≡ false → self.new ≡ self.old }
+        ensures exact { IsTrue result ↔ (self.old.waiting ≡ []) }
+    {
+        self.member.take_seat(seat)
     }
 
     /// Queues a call under a number of the caller's, to be answered at no fewer accepted calls than `at_least`:

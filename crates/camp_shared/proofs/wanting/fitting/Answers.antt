@@ -1,6 +1,5 @@
-use Rattle.std.proofs.Common.{◌≡◌, ℕ, ◌+◌, ◌-◌, ◌<◌, ◌≤◌, get_or, sym, ap, subst, arith}
-use Rattle.camp_shared.specs.Inside.{CanBeAsked}
-use Rattle.camp_shared.proofs.FitLemmas.{all_counted, can_at, full, no_more, none_counted, one_more}
+use Rattle.std.proofs.Common.{arith}
+use Rattle.camp_shared.proofs.FitLemmas.{can_at, full}
 use Rattle.camp_shared.proofs.wanting.fitting.Goals as goal
 
 pub noted_len-requires : goal.noted_len-requires

@@ -1,4 +1,4 @@
-use Rattle.std.proofs.Common.{◌≡◌, List, refl, sym, ap, subst, ◌∙◌, IfOk, Result}
+use Rattle.std.proofs.Common.{◌≡◌, List, refl, sym, ap, subst, ◌∙◌}
 use Rattle.std.specs.List.{AllByRecursion}
 use Rattle.camp_call.specs.declared.calls.Call.{Call}
 use Rattle.camp_member.specs.Notes.{WithNote}
@@ -9,8 +9,7 @@ use Rattle.camp_member.specs.declared.requests.Request.{Request}
 use Rattle.camp_member.specs.declared.requests.Want.TheVariants as want
 use Rattle.camp_object.specs.Histories.{IsLegal}
 use Rattle.camp_repo.specs.States.{Contents}
-use Rattle.camp_shared.specs.Asking.{WantsText}
-use Rattle.camp_shared.specs.Inside.{AreFitting, CanBeAsked, HasRoomForTexts}
+use Rattle.camp_shared.specs.Inside.{AreFitting, CanBeAsked}
 use Rattle.camp_shared.specs.Sharing.{Sharing, shared_from}
 use Rattle.camp_shared.proofs.WantLemmas.{entry_noted, entry_short, goes_on, room_ready, room_wanted, wants_so}
 use Rattle.camp_shared.proofs.members.SharedRepository.want.Goals.{in-Append, in-Nothing, in-Read}

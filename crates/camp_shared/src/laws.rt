@@ -1,0 +1,29 @@
+//! What holds of members of one log of texts.
+ghost use Rattle.camp_shared.specs.Laws.{AcceptedAreAnswered, FindsTextsInOrder, KeepsWhatWasRead, MembersShareOneHistory, MoreTextsGiveMore, NobodyReadsOn, OpensAtTitle, SameTagAddsNothing, SameTextsAgree};
+
+/// The history of a member is the lawful part of the entries of the texts that it found, from a new repository
+/// with the limits of the title; all members stop at the first text that is foreign.
+pub fn members_follow_the_texts()
+    ensures opens { OpensAtTitle }
+    ensures goes_on { FindsTextsInOrder }
+    ensures keeps { KeepsWhatWasRead }
+    ensures stops { NobodyReadsOn }
+{}
+
+/// Of the texts of a log with one tag the first alone counts, wherever the others stand.
+pub fn each_tag_of_texts_counts_once()
+    ensures law { SameTagAddsNothing }
+{}
+
+/// Members that have read the same texts have the same history, and of members of one log the history of one is
+/// a prefix of the other's.
+pub fn members_share_one_history()
+    ensures agree { SameTextsAgree }
+    ensures begins { MoreTextsGiveMore }
+    ensures law { MembersShareOneHistory }
+{}
+
+/// Of the calls of its seat the history of a member has those that it answered as accepted, each once.
+pub fn accepted_calls_are_answered()
+    ensures law { AcceptedAreAnswered }
+{}
