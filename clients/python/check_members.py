@@ -16,6 +16,7 @@ import time
 from camp import Repository
 from camp.logs import AppendOutcome, open_log
 from camp.shared import CALLS, NOT_READ, NOT_TAKEN, Member, Stopped, calls_of, turn, what_if
+from member_model import ModelMember
 
 NO_REPLY = (b"stopped\n", NOT_READ, NOT_TAKEN)
 Asked = collections.namedtuple("Asked", "seat turn call at_least asked")
@@ -42,7 +43,7 @@ class Lossy:
         return outcome
 
 
-class NewTag(Member):
+class NewTag(ModelMember):
     """Where it does not see its entry it asks again under a new number."""
     extra, last = 0, None
 
@@ -62,7 +63,7 @@ class NewTag(Member):
             self.stopped, self.index = None, self.index + 1
 
 
-class Early(Member):
+class Early(ModelMember):
     """It answers before the append is known."""
 
     def want(self):
@@ -74,21 +75,21 @@ class Early(Member):
         return want
 
 
-class Stale(Member):
+class Stale(ModelMember):
     """It answers at what it has read where more was wanted."""
 
     def ask(self, call, at_least=0, request=None, note=b""):
         super().ask(call, 0, request, note)
 
 
-class Skips(Member):
+class Skips(ModelMember):
     """It skips a number."""
 
     def number(self):
         return super().number() + (self.numbers.get(self.seat, 0) == 3)
 
 
-class Twice(Member):
+class Twice(ModelMember):
     """It appends two calls where one was asked."""
 
     def want(self):

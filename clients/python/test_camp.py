@@ -111,6 +111,13 @@ class Texts(unittest.TestCase):
             self.assertEqual(repository.ask(b""), b"")
             self.assertEqual(repository.ask("names main\nwhat\n"), b"names 0\nfault 2 unknown command\n")
 
+    def test_executed_commands_are_counted(self):
+        with camp.Repository() as repository:
+            for text, count in (("", 0), ("names main", 1), ("record main a add f\n# why\n\nrecord main a add f\n", 4),
+                                ("record main b edit f 1\n+b\nend\nrecord main c edit f 1\n+c\n", 2), ("", 0)):
+                repository.ask(text)
+                self.assertEqual(repository.executed, count)
+
     def test_any_byte_but_a_line_feed_may_stand_in_a_line(self):
         line = bytes(set(range(256)) - {10})
         with Repository() as repository:
@@ -184,9 +191,10 @@ class Errors(unittest.TestCase):
     def test_each_code_has_one_meaning(self):
         from camp.questions import check
         check(0, camp.OutcomeUnknown())
-        for code, raised in ((1, camp.Closed), (2, camp.OutcomeUnknown), (3, camp.Unexpected), (-1, camp.Unexpected)):
+        for code, raised in ((1, camp.Closed), (2, camp.OutcomeUnknown), *((it, camp.Unexpected) for it in (3, 4, 5, -1))):
             self.assertRaises(raised, check, code, camp.OutcomeUnknown())
         self.assertIsInstance(camp.errors.error_of(["memory"]), camp.OutOfMemory)
+        self.assertEqual((camp.OutcomeUnknown().executed, camp.OutcomeUnknown("out of memory", 7).executed), (None, 7))
         for raised in (camp.OutOfMemory, camp.OutcomeUnknown):
             self.assertTrue(issubclass(raised, camp.Error) and issubclass(raised, MemoryError))
 

@@ -19,7 +19,7 @@ def run(report, words):
 def c_programs(clients, flags=()):
     """The example, the tests and the conversations of examples/, with these flags of the compiler."""
     clients.writes("clients/c/example.stdout", [clients.compile("example", flags)])
-    for name in ("handles", "threads"):
+    for name in ("handles", "members", "threads"):
         clients.runs(name, [clients.compile(f"tests/{name}", flags)])
     talk = clients.compile("tests/talk", flags)
     for name in ("conflicts", "questions", "shell"):

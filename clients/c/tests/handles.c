@@ -21,23 +21,28 @@ static int32_t ask(camp *repository, const char *text) { return camp_ask(reposit
 
 static int32_t ask_view(camp_view *view, const char *text) { return camp_view_ask(view, bytes(text), strlen(text)); }
 
-/* Whether the answer is this text. */
+/* Whether the answer is this text, copied and lent. */
 static bool answers(camp *repository, const char *text) {
     char said[1024];
-    size_t length = camp_answer(repository, (uint8_t *)said, sizeof said);
-    return length == strlen(text) && length == camp_answer_length(repository) && !memcmp(said, text, length);
+    size_t length = camp_answer(repository, (uint8_t *)said, sizeof said), lent_length;
+    const uint8_t *lent = camp_answer_bytes(repository, &lent_length);
+    return length == strlen(text) && length == camp_answer_length(repository) && !memcmp(said, text, length)
+        && lent_length == length && (!length || !memcmp(lent, text, length));
 }
 
 static bool view_answers(camp_view *view, const char *text) {
     char said[1024];
-    size_t length = camp_view_answer(view, (uint8_t *)said, sizeof said);
-    return length == strlen(text) && length == camp_view_answer_length(view) && !memcmp(said, text, length);
+    size_t length = camp_view_answer(view, (uint8_t *)said, sizeof said), lent_length;
+    const uint8_t *lent = camp_view_answer_bytes(view, &lent_length);
+    return length == strlen(text) && length == camp_view_answer_length(view) && !memcmp(said, text, length)
+        && lent_length == length && (!length || !memcmp(lent, text, length));
 }
 
 /* The library says its version, and each code has words of its own. */
 static void version_and_codes(void) {
     CHECK(strlen(camp_version()) >= 5);
-    for (int32_t code = CAMP_DONE; code <= CAMP_LIMITS; code++) {
+    for (int32_t code = CAMP_DONE; code <= CAMP_WAITS; code++) {
+        if (code > CAMP_WRONG_KIND && code < CAMP_NO_TITLE) continue;
         CHECK(strlen(camp_code_text(code)) > 0 && strcmp(camp_code_text(code), camp_code_text(-1)));
         CHECK(code == CAMP_DONE || strcmp(camp_code_text(code), camp_code_text(code - 1)));
     }
@@ -48,7 +53,11 @@ static void closed(void) {
     camp repository = CAMP_CLOSED;
     camp_view view = CAMP_CLOSED, other = CAMP_CLOSED;
     uint8_t byte = 7;
-    CHECK(ask(&repository, "names main\n") == CAMP_NOT_OPEN);
+    size_t length = 7;
+    CHECK(ask(&repository, "names main\n") == CAMP_NOT_OPEN && camp_executed(&repository) == 0);
+    CHECK(camp_answer_bytes(&repository, &length) == NULL && length == 0);
+    length = 7;
+    CHECK(camp_view_answer_bytes(&view, &length) == NULL && length == 0);
     CHECK(camp_answer_length(&repository) == 0 && camp_answer(&repository, &byte, 1) == 0 && byte == 7);
     CHECK(camp_look(&repository, &view) == CAMP_NOT_OPEN && !view.is_open);
     CHECK(ask_view(&view, "names main\n") == CAMP_NOT_OPEN);
@@ -68,7 +77,7 @@ static void limits(void) {
     CHECK(camp_open_with(&repository, 1, 0) == CAMP_LIMITS && !repository.is_open);
     CHECK(camp_open_with(&repository, 1, 65537) == CAMP_LIMITS && !repository.is_open);
     CHECK(camp_open_with(&repository, 1, 2) == CAMP_DONE && repository.is_open);
-    CHECK(camp_open_with(&repository, 0, 0) == CAMP_NOT_OPEN && camp_open_with(&repository, 1, 1) == CAMP_NOT_OPEN);
+    CHECK(camp_open_with(&repository, 0, 0) == CAMP_ALREADY_OPEN && camp_open_with(&repository, 1, 1) == CAMP_ALREADY_OPEN);
     CHECK(ask(&repository, "record main a add f\nrecord main b add g\n") == CAMP_DONE && answers(&repository, "ok 1\nrefused 9\n"));
     CHECK(ask(&repository, "branch x main\nbranch y main\n") == CAMP_DONE && answers(&repository, "ok 2\nrefused 9\n"));
     camp_close(&repository);
@@ -84,19 +93,20 @@ static void open_handles(void) {
     CHECK(camp_open(&repository) == CAMP_DONE && repository.is_open);
     CHECK(camp_answer_length(&repository) == 0);
     CHECK(ask(&repository, "record main a add f\n") == CAMP_DONE && answers(&repository, "ok 1\n"));
-    CHECK(camp_open(&repository) == CAMP_NOT_OPEN && answers(&repository, "ok 1\n"));
+    CHECK(camp_open(&repository) == CAMP_ALREADY_OPEN && answers(&repository, "ok 1\n"));
     CHECK(ask(&repository, "names main\n") == CAMP_DONE && answers(&repository, "names 1\na\n"));
     CHECK(camp_look(&repository, &view) == CAMP_DONE && view_answers(&view, ""));
     CHECK(answers(&repository, "names 1\na\n"));
     CHECK(ask_view(&view, "names main\n") == CAMP_DONE && view_answers(&view, "names 1\na\n"));
     CHECK(ask(&repository, "record main b add g\n") == CAMP_DONE);
-    CHECK(camp_look(&repository, &view) == CAMP_NOT_OPEN && view_answers(&view, "names 1\na\n"));
+    CHECK(camp_look(&repository, &view) == CAMP_ALREADY_OPEN && view_answers(&view, "names 1\na\n"));
     CHECK(camp_view_again(&view, &other) == CAMP_DONE && view_answers(&other, ""));
-    CHECK(camp_view_again(&view, &other) == CAMP_NOT_OPEN);
+    CHECK(camp_view_again(&view, &other) == CAMP_ALREADY_OPEN);
     camp_view_close(&view);
     camp_close(&repository);
     CHECK(ask_view(&other, "names main\n") == CAMP_DONE && view_answers(&other, "names 1\na\n"));
     CHECK(ask_view(&view, "names main\n") == CAMP_NOT_OPEN && ask(&repository, "names main\n") == CAMP_NOT_OPEN);
+    CHECK(camp_look(&repository, &other) == CAMP_NOT_OPEN && camp_view_again(&view, &other) == CAMP_NOT_OPEN && other.is_open);
     camp_view_close(&other);
     camp_view_close(&other);
     camp_close(&repository);
@@ -147,16 +157,19 @@ static void conflicts(void) {
     camp_close(&repository);
 }
 
-/* Handles of the other kind are not open. */
-static void other_kind(void) {
+/* A view is no repository, and a repository is no view: a code of its own says so, whether or not the handle to be opened is
+ * open. */
+static void wrong_kind(void) {
     camp repository = CAMP_CLOSED;
     camp_view view = CAMP_CLOSED, other = CAMP_CLOSED;
     CHECK(camp_open(&repository) == CAMP_DONE && camp_look(&repository, &view) == CAMP_DONE);
-    CHECK(ask((camp *)&view, "names main\n") == CAMP_NOT_OPEN);
-    CHECK(camp_answer_length((camp *)&view) == 0);
-    CHECK(camp_look((camp *)&view, &other) == CAMP_NOT_OPEN);
-    CHECK(ask_view((camp_view *)&repository, "names main\n") == CAMP_NOT_OPEN);
-    CHECK(camp_view_again((camp_view *)&repository, &other) == CAMP_NOT_OPEN && !other.is_open);
+    CHECK(ask((camp *)&view, "names main\n") == CAMP_WRONG_KIND);
+    CHECK(camp_answer_length((camp *)&view) == 0 && camp_executed((camp *)&view) == 0);
+    CHECK(camp_look((camp *)&view, &other) == CAMP_WRONG_KIND && !other.is_open);
+    CHECK(ask_view((camp_view *)&repository, "names main\n") == CAMP_WRONG_KIND);
+    CHECK(camp_view_again((camp_view *)&repository, &other) == CAMP_WRONG_KIND && !other.is_open);
+    CHECK(camp_view_again(&view, &other) == CAMP_DONE && camp_look((camp *)&view, &other) == CAMP_WRONG_KIND && other.is_open);
+    camp_view_close(&other);
     CHECK(ask(&repository, "names main\n") == CAMP_DONE && answers(&repository, "names 0\n"));
     camp_view_close(&view);
     camp_close(&repository);
@@ -209,7 +222,7 @@ int main(void) {
     limits();
     questions_alone();
     conflicts();
-    other_kind();
+    wrong_kind();
     buffers();
     texts();
     printf("handles: %d facts hold\n", checks);

@@ -1,5 +1,5 @@
 /* Each allocation is refused in turn: one alone, and from one on all. No call ends the program, a refused one leaves what
- * its code says, and in the end nothing is left. Linked with --wrap=malloc,--wrap=realloc,--wrap=free. */
+ * its code and the count of executed commands say, and in the end nothing is left. Linked with --wrap=malloc,--wrap=realloc,--wrap=free. */
 #include "camp.h"
 #include <stdio.h>
 #include <stdlib.h>
@@ -45,40 +45,97 @@ void __wrap_free(void *block) {
     __real_free(block);
 }
 
-static const char *const texts[] = {
-    "record main start add notes\n",
-    "record main one edit notes 1\n+one\nend\n",
-    "branch other main\n",
-    "record main english edit notes 1\n-one\n+first\nend\n",
-    "record other german edit notes 1\n-one\n+erstens\nend\n",
-    "pull other main\n",
-    "open main\nside main german\nmarks main notes\n",
-    "names main\nconflicts main\ntree main\nwhat\n",
-    "needs main german\nannotate main notes\nwhatif obliterate main english\n",
-    "obliterate main english\n",
-    "history\nkeep\n",
+/* Texts, each by its commands. Of a text that writes, each command that asks something has an answer of one line. */
+enum { TEXTS = 11, COMMANDS = 8 };
+static const char *const texts[TEXTS][COMMANDS] = {
+    {"record main start add notes\n", "# what is in it\n", "record main one edit notes 1\n+one\nend\n", "\n", "branch other main\n"},
+    {"record main english edit notes 1\n-one\n+first\nend\n", "record other german edit notes 1\n-one\n+erstens\nend\n"},
+    {"pull other main\n"},
+    {"open main\n", "side main german\n", "marks main notes\n"},
+    {"names main\n", "conflicts main\n", "tree main\n", "what\n"},
+    {"needs main german\n", "annotate main notes\n", "whatif obliterate main english\n"},
+    {"obliterate main english\n", "obliterate main english\n", "branch third main\n", "branch fourth third\n", "record fourth last add more\n"},
+    {"history\n", "keep\n"},
+    {"pull fourth main\n", "obliterate fourth last\n", "# no more\n", "obliterate other german\n"},
+    {"record main line edit more 1\n+x\nend\n", "pull main third line\n", "record third cut edit more 1\n+y\n"},
+    {"history\n"},
 };
-
-enum { TEXTS = sizeof texts / sizeof *texts };
 
 static int32_t ask(camp *repository, const char *text) {
     return camp_ask(repository, (const uint8_t *)text, strlen(text));
 }
 
-/* How many calls were accepted: the number of `history`. Memory is granted. */
-static long accepted(camp *repository) {
-    char said[16] = "";
-    until = -1;
-    if (ask(repository, "history\n") != CAMP_DONE) return -1;
-    camp_answer(repository, (uint8_t *)said, sizeof said - 1);
-    return strncmp(said, "history ", 8) ? -1 : atol(said + 8);
+/* The commands of a text from the first-th on, as one text. */
+static const char *text_from(const char *const *commands, size_t first) {
+    static char text[1024];
+    text[0] = '\0';
+    for (size_t i = first; i < COMMANDS && commands[i]; i++) strcat(text, commands[i]);
+    return text;
 }
 
-/* Where a call of this text was refused at all, it was done wholly or not at all, and can be asked again. */
-static int asked_again(camp *repository, const char *text, long before) {
-    long after = accepted(repository);
-    if (after < before || after > before + 1) return 1;
-    return ask(repository, text) == CAMP_DONE ? 0 : 2;
+/* The last answer, as a string that the caller frees. Memory is granted. */
+static char *answer(camp *repository) {
+    size_t length;
+    const uint8_t *bytes = camp_answer_bytes(repository, &length);
+    char *text = malloc(length + 1);
+    if (length) memcpy(text, bytes, length);
+    text[length] = '\0';
+    return text;
+}
+
+/* The script that gives the repository back, as a string that the caller frees; null where it is not answered. Memory is granted. */
+static char *kept(camp *repository) {
+    if (ask(repository, "keep\n") != CAMP_DONE) return NULL;
+    char *said = answer(repository), *script = strchr(said, '\n');
+    if (script) memmove(said, script + 1, strlen(script));
+    return said;
+}
+
+/* Asks of a repository the first commands of a text but those that were answered `memory`, which changed nothing. */
+static int ask_first(camp *repository, const char *const *commands, size_t executed, const char *said) {
+    for (size_t i = 0; i < executed; i++) {
+        if (!commands[i]) return 1;
+        bool is_silent = commands[i][0] == '#' || commands[i][0] == '\n';
+        bool ran_out = !is_silent && !strncmp(said, "memory\n", 7);
+        const char *line_end = is_silent ? NULL : strchr(said, '\n');
+        if (line_end) said = line_end + 1;
+        if (!ran_out && ask(repository, commands[i]) != CAMP_DONE) return 2;
+    }
+    return 0;
+}
+
+/* After out of memory the repository is that after the first commands of the text, as many as were counted; then the others
+ * are asked. `before` is the script of the repository before the text. */
+static int is_as_counted(camp *repository, const char *const *commands, const char *before) {
+    until = -1;
+    camp other = CAMP_CLOSED;
+    size_t executed = camp_executed(repository);
+    char *said = answer(repository), *now = kept(repository), *wanted = NULL;
+    int wrong = camp_open(&other) || ask(&other, before);
+    if (!wrong) wrong = ask_first(&other, commands, executed, said);
+    if (!wrong) wanted = kept(&other);
+    if (!wrong && (!now || !wanted || strcmp(now, wanted))) wrong = 3;
+    if (!wrong && ask(repository, text_from(commands, executed)) != CAMP_DONE) wrong = 4;
+    camp_close(&other);
+    free(said), free(now), free(wanted);
+    return wrong;
+}
+
+/* Asks a text, and looks at what it leaves. */
+static int ask_text(camp *repository, const char *const *commands) {
+    long left = until;
+    until = -1;
+    char *before = kept(repository);
+    int wrong = before ? 0 : 6;
+    until = left;
+    int32_t code = wrong ? CAMP_DONE : ask(repository, text_from(commands, 0));
+    if (code == CAMP_MEMORY) wrong = is_as_counted(repository, commands, before);
+    else if (code != CAMP_DONE) wrong = 5;
+    left = until;
+    until = -1;
+    free(before);
+    until = left;
+    return wrong;
 }
 
 /* One run; the status says what was wrong. */
@@ -92,13 +149,7 @@ static int run(void) {
         until = -1;
         if (camp_open(&repository) != CAMP_DONE) return 2;
     }
-    for (int i = 0; i < TEXTS && !wrong; i++) {
-        long left = until, before = accepted(&repository);
-        until = left;
-        code = ask(&repository, texts[i]);
-        if (code == CAMP_MEMORY) wrong = asked_again(&repository, texts[i], before);
-        else if (code != CAMP_DONE) wrong = 3;
-    }
+    for (int i = 0; i < TEXTS && !wrong; i++) wrong = ask_text(&repository, texts[i]);
     if ((code = camp_look(&repository, &view)) != CAMP_DONE) {
         if (code != CAMP_MEMORY || view.is_open) return 4;
         until = -1;

@@ -9,6 +9,7 @@ from typing import Any, List
 NAME = "libcamp.so"
 # The version of camp that this package is of, and its library has to be of.
 VERSION = "0.1.0"
+# Codes of camp.h. Its others come only of handles that this package does not use, and of limits that it has checked.
 DONE, NOT_OPEN, MEMORY = 0, 1, 2
 
 
@@ -54,13 +55,23 @@ def _declare(library: Any, name: str, arguments: List[Any], result: Any) -> None
     call.argtypes, call.restype = arguments, result
 
 
+def _declare_members(library: Any, handle: Any) -> None:
+    number, size, text = ctypes.c_uint64, ctypes.c_size_t, ctypes.c_char_p
+    asked = {"open": [number, number, text, size], "take_seat": [number, number], "ask": [number, text, size, number], "want": [],
+             "found": [size, text, size], "refused": [], "ended": [size], "answer": [], "call": [size], "look": [handle]}
+    told = {"number": ([], number), "text_length": ([], size), "text": ([text, size], size), "index": ([], size), "accepted": ([], number), "close": ([], None)}
+    for name, arguments in asked.items():
+        _declare(library, "camp_member_" + name, [handle, *arguments], ctypes.c_int32)
+    for name, (arguments, result) in told.items():
+        _declare(library, "camp_member_" + name, [handle, *arguments], result)
+
+
 def _load() -> ctypes.CDLL:
     library = _open()
     handle = ctypes.POINTER(Handle)
     for kind in ("camp", "camp_view"):
         _declare(library, kind + "_ask", [handle, ctypes.c_char_p, ctypes.c_size_t], ctypes.c_int32)
-        _declare(library, kind + "_answer_length", [handle], ctypes.c_size_t)
-        _declare(library, kind + "_answer", [handle, ctypes.c_char_p, ctypes.c_size_t], ctypes.c_size_t)
+        _declare(library, kind + "_answer_bytes", [handle, ctypes.POINTER(ctypes.c_size_t)], ctypes.c_void_p)
         _declare(library, kind + "_close", [handle], None)
     for name in ("camp_look", "camp_view_again"):
         _declare(library, name, [handle, handle], ctypes.c_int32)
@@ -69,7 +80,9 @@ def _load() -> ctypes.CDLL:
     if found != VERSION:
         raise ImportError("{} is camp {}, and this package is of camp {}: run clients/build, or install the wheel of the same release"
                           .format(library._name, found, VERSION))
+    _declare(library, "camp_executed", [handle], ctypes.c_size_t)
     _declare(library, "camp_open", [handle], ctypes.c_int32)
+    _declare_members(library, handle)
     _declare(library, "camp_open_with", [handle, ctypes.c_size_t, ctypes.c_size_t], ctypes.c_int32)
     return library
 

@@ -2,7 +2,7 @@
 
 from __future__ import annotations
 
-from typing import Dict, List, Type
+from typing import Dict, List, Optional, Type
 
 
 class Error(Exception):
@@ -133,7 +133,12 @@ class OutOfMemory(Error, MemoryError):
 
 
 class OutcomeUnknown(Error, MemoryError):
-    """Memory ran out before the answer was whole: the commands were done, or some of them were not. `history` says which."""
+    """The answer is not whole. If memory ran out, exactly the first `executed` commands of the text were executed; blank lines
+    and comments count. `executed` is None if nobody knows: a shared log did not answer, and `history` says what was done."""
+
+    def __init__(self, message: str = "", executed: Optional[int] = None) -> None:
+        super().__init__(message)
+        self.executed = executed
 
 
 class Closed(Error):

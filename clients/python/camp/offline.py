@@ -126,7 +126,7 @@ class Offline:
         """Asks calls, and returns their answers. Where the log is away they are executed here, and wait for it."""
         if not self.away:
             try:
-                return self.shared.write_all(calls, are_sure=True)
+                return self.shared.write_all(calls)
             except OutcomeUnknown as error:
                 self._leave(str(error))
         answers = self.shared.execute_here(calls)

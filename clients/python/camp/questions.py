@@ -4,7 +4,7 @@ from __future__ import annotations
 
 import ctypes
 import threading
-from typing import Any, Iterable, List, Optional, Type, TypeVar, Union
+from typing import Any, Iterable, List, Optional, TypeVar, Union
 
 from . import answers
 from ._library import DONE, LIBRARY, MEMORY, NOT_OPEN, Handle, require_library
@@ -23,7 +23,7 @@ def check(code: int, at_memory: Error) -> None:
     if code == NOT_OPEN:
         raise Closed("closed")
     if code != DONE:
-        raise Unexpected("code {}".format(code))
+        raise Unexpected("code {} of the library".format(code))
 
 
 class Questions:
@@ -33,9 +33,8 @@ class Questions:
     It serves one call at a time, and has a lock for that: threads may share it. Calls let go of Python's own lock while the
     library works."""
 
-    # How the functions of the library for it begin, and what is known where memory ran out for an answer.
+    # How the functions of the library for it begin.
     _kind = "camp_view"
-    _at_memory: Type[Error] = OutOfMemory
 
     def __init__(self) -> None:
         # Where there is none, this is raised before there is anything to close.
@@ -185,11 +184,16 @@ class Questions:
 
     def _respond(self, text: bytes) -> bytes:
         """The responses to a text. The lock is held."""
-        check(self._call("ask", text, len(text)), self._at_memory("out of memory"))
-        length = self._call("answer_length")
+        code = self._call("ask", text, len(text))
+        if code != DONE:
+            check(code, self._out_of_memory("out of memory"))
+        length = ctypes.c_size_t()
+        at = self._call("answer_bytes", ctypes.byref(length))
         try:
-            answer = ctypes.create_string_buffer(length + 1)
-            written = self._call("answer", answer, length)
-            return answer.raw[:written]
+            return ctypes.string_at(at, length.value)
         except MemoryError:
-            raise self._at_memory("out of memory for an answer of {} bytes".format(length)) from None
+            raise self._out_of_memory("out of memory for an answer of {} bytes".format(length.value)) from None
+
+    def _out_of_memory(self, message: str) -> Error:
+        """What is raised if memory ran out for an answer. A view has changed nothing."""
+        return OutOfMemory(message)

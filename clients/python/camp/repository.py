@@ -31,7 +31,6 @@ class Calls(Questions):
     from 1."""
 
     _kind = "camp"
-    _at_memory = OutcomeUnknown
 
     def branch(self, new: str, origin: str) -> int:
         """Makes a branch that is a copy of another."""
@@ -57,6 +56,17 @@ class Calls(Questions):
     def obliterate(self, branch: str, names: Iterable[str]) -> int:
         """Takes patches out of a branch."""
         return self._write(command("obliterate", branch, *list_of("names", names)))
+
+    @property
+    def executed(self) -> int:
+        """How many commands of the last text were executed; blank lines and comments count. After `OutcomeUnknown` these are its
+        first ones."""
+        with self._lock:
+            return self._call("executed")
+
+    def _out_of_memory(self, message: str) -> Error:
+        executed = self._call("executed")
+        return OutcomeUnknown(message, executed) if executed else OutOfMemory(message)
 
     def _write(self, text: bytes) -> int:
         return self._ask(text).count("ok")

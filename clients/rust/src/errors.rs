@@ -8,9 +8,11 @@ use std::fmt;
 pub enum Error {
     /// Memory ran out. Nothing has changed, and the same can be asked again.
     OutOfMemory,
-    /// Memory ran out before the answer was whole: the commands were done, or some of them were not. See
-    /// [`Repository::history`](crate::Repository::history).
-    OutcomeUnknown,
+    /// Memory ran out before the answer was whole. Exactly the first commands of the text were executed.
+    OutcomeUnknown {
+        /// How many these are; blank lines and comments count.
+        executed: usize,
+    },
     /// The repository refuses the call.
     Refused(Refused),
     /// The text is no command.
@@ -35,7 +37,10 @@ impl fmt::Display for Error {
     fn fmt(&self, f: &mut fmt::Formatter<'_>) -> fmt::Result {
         match self {
             Error::OutOfMemory => f.write_str("out of memory"),
-            Error::OutcomeUnknown => f.write_str("out of memory before the answer was whole"),
+            Error::OutcomeUnknown { executed } => write!(
+                f,
+                "out of memory before the answer was whole: {executed} commands were executed"
+            ),
             Error::Refused(refused) => write!(f, "refused: {}", refused.refusal),
             Error::Fault(fault) => write!(f, "{fault}"),
             Error::Malformed(malformed) => write!(f, "{malformed}"),

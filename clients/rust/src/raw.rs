@@ -8,7 +8,7 @@
 use crate::answers::Answer;
 use crate::errors::Error;
 use std::ffi::c_void;
-use std::ptr;
+use std::{ptr, slice};
 
 const DONE: i32 = 0;
 const MEMORY: i32 = 2;
@@ -34,37 +34,37 @@ extern "C" {
     fn camp_open(repository: *mut Handle) -> i32;
     fn camp_open_with(repository: *mut Handle, catches: usize, branches: usize) -> i32;
     fn camp_ask(repository: *mut Handle, text: *const u8, length: usize) -> i32;
-    fn camp_answer_length(repository: *mut Handle) -> usize;
-    fn camp_answer(repository: *mut Handle, buffer: *mut u8, length: usize) -> usize;
+    fn camp_executed(repository: *mut Handle) -> usize;
+    fn camp_answer_bytes(repository: *mut Handle, length: *mut usize) -> *const u8;
     fn camp_close(repository: *mut Handle);
     fn camp_look(repository: *mut Handle, view: *mut Handle) -> i32;
     fn camp_view_ask(view: *mut Handle, text: *const u8, length: usize) -> i32;
-    fn camp_view_answer_length(view: *mut Handle) -> usize;
-    fn camp_view_answer(view: *mut Handle, buffer: *mut u8, length: usize) -> usize;
+    fn camp_view_answer_bytes(view: *mut Handle, length: *mut usize) -> *const u8;
     fn camp_view_again(view: *mut Handle, other: *mut Handle) -> i32;
     fn camp_view_close(view: *mut Handle);
 }
 
-// An answer of so many bytes, which a function writes into a buffer of that length.
-fn copied(
-    length: usize,
-    at_memory: Error,
-    write: impl FnOnce(&mut [u8]) -> usize,
-) -> Result<Vec<u8>, Error> {
+// A copy of an answer that the library lends: so many bytes at a pointer, or none.
+//
+// # Safety
+//
+// At the pointer there are that many bytes, which nobody writes meanwhile; it is null only if there are none.
+unsafe fn copied(at: *const u8, length: usize) -> Option<Vec<u8>> {
     let mut answer = Vec::new();
-    answer.try_reserve_exact(length).map_err(|_| at_memory)?;
-    answer.resize(length, 0);
-    let written = write(&mut answer);
-    answer.truncate(written);
-    Ok(answer)
+    answer.try_reserve_exact(length).ok()?;
+    if length > 0 {
+        // SAFETY: as the caller says.
+        answer.extend_from_slice(unsafe { slice::from_raw_parts(at, length) });
+    }
+    Some(answer)
 }
 
-// What a code means. How much was done when memory ran out depends on the function. A handle of these types is open as
-// long as it lives, so "not open" is a code as unknown as any other.
-fn done(code: i32, at_memory: Error) -> Result<(), Error> {
+// What a code means if nothing has changed at each other than `DONE`. A handle of these types is open as long as it lives, has
+// its own kind, and is opened once, so the codes 1, 4 and 5 do not come.
+fn done(code: i32) -> Result<(), Error> {
     match code {
         DONE => Ok(()),
-        MEMORY => Err(at_memory),
+        MEMORY => Err(Error::OutOfMemory),
         _ => Err(Error::Unexpected(Answer::new(
             format!("code {code}").into_bytes(),
         ))),
@@ -78,7 +78,7 @@ impl RawRepository {
     pub(crate) fn open() -> Result<RawRepository, Error> {
         let mut handle = Handle::closed();
         // SAFETY: the handle is closed, and lives through the call.
-        done(unsafe { camp_open(&mut handle) }, Error::OutOfMemory)?;
+        done(unsafe { camp_open(&mut handle) })?;
         Ok(RawRepository(handle))
     }
 
@@ -88,30 +88,44 @@ impl RawRepository {
         // SAFETY: the handle is closed, and lives through the call.
         match unsafe { camp_open_with(&mut handle, catches, branches) } {
             LIMITS => Ok(None),
-            code => done(code, Error::OutOfMemory).map(|()| Some(RawRepository(handle))),
+            code => done(code).map(|()| Some(RawRepository(handle))),
         }
     }
 
-    // The answer to a text. Where memory runs out some of its commands may have been done.
+    // How many commands of the last text were executed.
+    pub(crate) fn executed(&mut self) -> usize {
+        // SAFETY: `&mut self` makes it the only call.
+        unsafe { camp_executed(&mut self.0) }
+    }
+
+    // Why there is no answer to the last text if memory ran out for it.
+    fn out_of_memory(&mut self) -> Error {
+        match self.executed() {
+            0 => Error::OutOfMemory,
+            executed => Error::OutcomeUnknown { executed },
+        }
+    }
+
+    // The answer to a text. If memory runs out, only its first commands were executed.
     pub(crate) fn ask(&mut self, text: &[u8]) -> Result<Vec<u8>, Error> {
         // SAFETY: pointer and length are those of a slice; `&mut self` makes it the only call.
         let code = unsafe { camp_ask(&mut self.0, text.as_ptr(), text.len()) };
-        done(code, Error::OutcomeUnknown)?;
+        if code == MEMORY {
+            return Err(self.out_of_memory());
+        }
+        done(code)?;
+        let mut length = 0;
         // SAFETY: `&mut self` makes it the only call.
-        let length = unsafe { camp_answer_length(&mut self.0) };
-        // SAFETY: pointer and length are those of a slice that is written alone; `&mut self` makes it the only call.
-        copied(length, Error::OutcomeUnknown, |buffer| unsafe {
-            camp_answer(&mut self.0, buffer.as_mut_ptr(), buffer.len())
-        })
+        let at = unsafe { camp_answer_bytes(&mut self.0, &mut length) };
+        // SAFETY: the library lends its answer until the next call, and `&mut self` makes that come later.
+        let answer = unsafe { copied(at, length) };
+        answer.ok_or_else(|| self.out_of_memory())
     }
 
     pub(crate) fn look(&mut self) -> Result<RawView, Error> {
         let mut view = Handle::closed();
         // SAFETY: the view is closed, and both live through the call; `&mut self` makes it the only call.
-        done(
-            unsafe { camp_look(&mut self.0, &mut view) },
-            Error::OutOfMemory,
-        )?;
+        done(unsafe { camp_look(&mut self.0, &mut view) })?;
         Ok(RawView(view))
     }
 }
@@ -130,23 +144,18 @@ impl RawView {
     // The answer to a text, which changes nothing.
     pub(crate) fn ask(&mut self, text: &[u8]) -> Result<Vec<u8>, Error> {
         // SAFETY: pointer and length are those of a slice; `&mut self` makes it the only call.
-        let code = unsafe { camp_view_ask(&mut self.0, text.as_ptr(), text.len()) };
-        done(code, Error::OutOfMemory)?;
+        done(unsafe { camp_view_ask(&mut self.0, text.as_ptr(), text.len()) })?;
+        let mut length = 0;
         // SAFETY: `&mut self` makes it the only call.
-        let length = unsafe { camp_view_answer_length(&mut self.0) };
-        // SAFETY: pointer and length are those of a slice that is written alone; `&mut self` makes it the only call.
-        copied(length, Error::OutOfMemory, |buffer| unsafe {
-            camp_view_answer(&mut self.0, buffer.as_mut_ptr(), buffer.len())
-        })
+        let at = unsafe { camp_view_answer_bytes(&mut self.0, &mut length) };
+        // SAFETY: the library lends its answer until the next call, and `&mut self` makes that come later.
+        unsafe { copied(at, length) }.ok_or(Error::OutOfMemory)
     }
 
     pub(crate) fn again(&mut self) -> Result<RawView, Error> {
         let mut other = Handle::closed();
         // SAFETY: the other view is closed, and both live through the call; `&mut self` makes it the only call.
-        done(
-            unsafe { camp_view_again(&mut self.0, &mut other) },
-            Error::OutOfMemory,
-        )?;
+        done(unsafe { camp_view_again(&mut self.0, &mut other) })?;
         Ok(RawView(other))
     }
 }

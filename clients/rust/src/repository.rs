@@ -85,6 +85,11 @@ impl Repository {
         })
     }
 
+    /// How many commands of the last text were executed; blank lines and comments count.
+    pub fn executed(&mut self) -> usize {
+        self.0.executed()
+    }
+
     fn write(&mut self, text: &[u8]) -> Result<u64, Error> {
         run(self, text)?.read("ok", |number, _| Some(number))
     }

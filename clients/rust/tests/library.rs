@@ -39,6 +39,16 @@ fn two_branches() -> Repository {
 }
 
 #[test]
+fn executed_commands_are_counted() {
+    let mut repository = Repository::new().unwrap();
+    let text = "record main a add f\n# why\n\nnames main";
+    for (text, count) in [("", 0), ("names main\n", 1), (text, 4), ("", 0)] {
+        repository.ask(text).unwrap();
+        assert_eq!(repository.executed(), count);
+    }
+}
+
+#[test]
 fn a_conflict_is_seen_and_resolved() {
     let (main, english, german) = (name("main"), name("english"), name("german"));
     let mut repository = two_branches();

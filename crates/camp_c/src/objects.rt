@@ -1,9 +1,10 @@
 //! The value of an open handle.
-ghost use Rattle.std.specs.Prelude.{◌≡◌, Some};
-ghost use Rattle.camp_c.specs.Handles.{AsksRepository, AsksView, answer_of, answer_of_view};
+ghost use Rattle.std.specs.Prelude.{◌≡◌, Some, length};
+ghost use Rattle.camp_c.specs.Handles.{AsksRepository, AsksView, answer_of, answer_of_view, executed_of};
 
-use crate::codes::{CLOSED, DONE, MEMORY};
+use crate::codes::{DONE, MEMORY, WRONG_KIND};
 use camp_session::{Session, View};
+use camp_shared_session::SharedSession;
 use std::alloc::Global;
 
 /// The value of an open handle.
@@ -11,6 +12,7 @@ use std::alloc::Global;
 pub enum OpenObject {
     Session(Session),
     View(View),
+    Member(SharedSession),
 }
 
 impl OpenObject {
@@ -23,7 +25,7 @@ impl OpenObject {
                 Ok(()) => DONE,
                 Err(_) => MEMORY,
             },
-            OpenObject::View(_) => CLOSED,
+            _ => WRONG_KIND,
         }
     }
 
@@ -36,7 +38,7 @@ impl OpenObject {
                 Ok(()) => DONE,
                 Err(_) => MEMORY,
             },
-            OpenObject::Session(_) => CLOSED,
+            _ => WRONG_KIND,
         }
     }
 
@@ -46,7 +48,28 @@ impl OpenObject {
     {
         match self {
             OpenObject::Session(session) => session.answer(),
-            OpenObject::View(_) => &[],
+            _ => &[],
+        }
+    }
+
+    /// Sets `at` to the first byte of the answer of a repository, and returns the number of bytes. Otherwise `at` is
+    /// unchanged.
+    pub(crate) fn lend_answer(&self, at: &mut *const u8) -> usize
+        ensures { result ≡ length (answer_of (Some self.now)) }
+    {
+        match self {
+            OpenObject::Session(session) => session.lend_answer(at),
+            _ => 0,
+        }
+    }
+
+    /// Returns how many commands of the last text of a repository were executed.
+    pub(crate) fn executed(&self) -> usize
+        ensures { result ≡ executed_of (Some self.now) }
+    {
+        match self {
+            OpenObject::Session(session) => session.executed(),
+            _ => 0,
         }
     }
 
@@ -56,7 +79,18 @@ impl OpenObject {
     {
         match self {
             OpenObject::View(view) => view.answer(),
-            OpenObject::Session(_) => &[],
+            _ => &[],
+        }
+    }
+
+    /// Sets `at` to the first byte of the answer of a view, and returns the number of bytes. Otherwise `at` is
+    /// unchanged.
+    pub(crate) fn lend_answer_of_view(&self, at: &mut *const u8) -> usize
+        ensures { result ≡ length (answer_of_view (Some self.now)) }
+    {
+        match self {
+            OpenObject::View(view) => view.lend_answer(at),
+            _ => 0,
         }
     }
 }

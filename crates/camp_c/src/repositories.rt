@@ -1,11 +1,11 @@
 //! Repositories: opened, asked and closed.
 ghost use Rattle.std.specs.Prelude.{◌≡◌, ◌++◌, None, Some, length, take, drop, min, IfOk};
-ghost use Rattle.camp_c.specs.Handles.{AsksRepository, OpensRepository, OpensWithin, answer_of};
+ghost use Rattle.camp_c.specs.Handles.{AsksRepository, OpensRepository, OpensWithin, answer_of, executed_of};
 ghost use Rattle.camp_repo.specs.Limits.{bounded, default_bounds};
 ghost use Rattle.camp_session.specs.Sessions.{new_repository};
 ghost use Rattle.camp_c.specs.declared.objects.OpenObject.TheVariants.{Session as OfSession};
 
-use crate::codes::{CLOSED, DONE, LIMITS, MEMORY};
+use crate::codes::{ALREADY_OPEN, DONE, LIMITS, MEMORY, NOT_OPEN};
 use crate::handles::Handle;
 use crate::objects::OpenObject;
 use camp_session::{Limits, Session};
@@ -32,7 +32,7 @@ pub extern "C" fn camp_open_with(
 {
     match Limits::new(catches, branches) {
         Ok(limits) => open(alloc, handle, limits),
-        Err(_) if handle.is_open() => CLOSED,
+        Err(_) if handle.is_open() => ALREADY_OPEN,
         Err(_) => LIMITS,
     }
 }
@@ -43,7 +43,7 @@ fn open(alloc: Global, handle: &mut Handle, limits: Limits) -> i32
     match handle.take(alloc) {
         Some(object) => {
             handle.put(object);
-            CLOSED
+            ALREADY_OPEN
         }
         None => match begin(alloc, limits) {
             Ok(object) => {
@@ -62,17 +62,32 @@ fn begin(alloc: Global, limits: Limits) -> Result<Box<OpenObject>, AllocError>
     Ok(Box::new(alloc, OpenObject::Session(session))?)
 }
 
-/// Executes the commands of a text, which is a conversation of its own.
+/// Executes the commands of a text, which is a conversation of its own. If memory runs out, exactly the first
+/// ones were executed, as many as `camp_executed` returns.
 #[unsafe(no_mangle)]
 pub extern "C" fn camp_ask(alloc: Global, handle: &mut Handle, text: &[u8]) -> i32
     ensures { AsksRepository handle.old.keeper.held text.now result handle.new.keeper.held }
 {
     let Some(mut object) = handle.take(alloc) else {
-        return CLOSED;
+        return NOT_OPEN;
     };
     let code = object.ask(alloc, text);
     handle.put(object);
     code
+}
+
+/// Returns how many commands of the last text were executed, each blank line and comment among them.
+#[unsafe(no_mangle)]
+pub extern "C" fn camp_executed(alloc: Global, handle: &mut Handle) -> usize
+    ensures same { handle.new.keeper.held ≡ handle.old.keeper.held }
+    ensures count { result ≡ executed_of handle.old.keeper.held }
+{
+    let Some(object) = handle.take(alloc) else {
+        return 0;
+    };
+    let executed = object.executed();
+    handle.put(object);
+    executed
 }
 
 /// Returns the number of bytes of the answer to the last text.
@@ -103,6 +118,22 @@ pub extern "C" fn camp_answer(alloc: Global, handle: &mut Handle, buffer: &mut [
     let count = copy_front(object.answer(), buffer);
     handle.put(object);
     count
+}
+
+/// Sets `at` to the first byte of the answer to the last text, which stays there until the next call with this
+/// handle, and returns the number of bytes. If there is no repository, `at` is unchanged.
+#[unsafe(no_mangle)]
+pub extern "C" fn camp_lend_answer(alloc: Global, handle: &mut Handle, at: &mut *const u8) -> usize
+    ensures same { handle.new.keeper.held ≡ handle.old.keeper.held }
+    ensures length { result ≡ length (answer_of handle.old.keeper.held) }
+    ensures closed { handle.old.keeper.held ≡ None → at.new ≡ at.old }
+{
+    let Some(object) = handle.take(alloc) else {
+        return 0;
+    };
+    let length = object.lend_answer(at);
+    handle.put(object);
+    length
 }
 
 /// Writes as many bytes as fit in a buffer.

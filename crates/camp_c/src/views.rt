@@ -4,7 +4,7 @@ ghost use Rattle.camp_c.specs.Handles.{AsksView, OpensView, OpensViewAgain, answ
 ghost use Rattle.camp_c.specs.Inside.{Shows};
 ghost use Rattle.camp_c.specs.declared.objects.OpenObject.TheVariants.{View as OfView};
 
-use crate::codes::{CLOSED, DONE, MEMORY};
+use crate::codes::{ALREADY_OPEN, DONE, MEMORY, NOT_OPEN, WRONG_KIND};
 use crate::handles::Handle;
 use crate::objects::OpenObject;
 use crate::repositories::copy_front;
@@ -18,7 +18,7 @@ pub extern "C" fn camp_look(alloc: Global, handle: &mut Handle, view: &mut Handl
     ensures opens { OpensView handle.old.keeper.held view.old.keeper.held result view.new.keeper.held }
 {
     let Some(object) = handle.take(alloc) else {
-        return CLOSED;
+        return NOT_OPEN;
     };
     let code = open_view(alloc, &object, view);
     handle.put(object);
@@ -29,16 +29,16 @@ fn open_view(alloc: Global, object: &OpenObject, handle: &mut Handle) -> i32
     ensures { OpensView (Some object.now) handle.old.keeper.held result handle.new.keeper.held }
 {
     let OpenObject::Session(session) = object else {
-        return CLOSED;
+        return WRONG_KIND;
     };
     if handle.is_open() {
-        return CLOSED;
+        return ALREADY_OPEN;
     }
     open_shown(alloc, session.view(alloc), handle)
 }
 
-// Opens a closed handle on a view, if there is one.
-fn open_shown(alloc: Global, view: Result<View, AllocError>, handle: &mut Handle) -> i32
+/// Opens a closed handle on a view, if there is one.
+pub(crate) fn open_shown(alloc: Global, view: Result<View, AllocError>, handle: &mut Handle) -> i32
     requires { handle.old.keeper.held ≡ None }
     ensures { Shows view result handle.new.keeper.held }
 {
@@ -64,7 +64,7 @@ pub extern "C" fn camp_view_ask(alloc: Global, view: &mut Handle, text: &[u8]) -
     ensures { AsksView view.old.keeper.held text.now result view.new.keeper.held }
 {
     let Some(mut object) = view.take(alloc) else {
-        return CLOSED;
+        return NOT_OPEN;
     };
     let code = object.ask_view(alloc, text);
     view.put(object);
@@ -101,6 +101,26 @@ pub extern "C" fn camp_view_answer(alloc: Global, view: &mut Handle, buffer: &mu
     count
 }
 
+/// Sets `at` to the first byte of the answer to the last text, which stays there until the next call with this
+/// handle, and returns the number of bytes. If there is no view, `at` is unchanged.
+#[unsafe(no_mangle)]
+pub extern "C" fn camp_lend_view_answer(
+    alloc: Global,
+    view: &mut Handle,
+    at: &mut *const u8,
+) -> usize
+    ensures same { view.new.keeper.held ≡ view.old.keeper.held }
+    ensures length { result ≡ length (answer_of_view view.old.keeper.held) }
+    ensures closed { view.old.keeper.held ≡ None → at.new ≡ at.old }
+{
+    let Some(object) = view.take(alloc) else {
+        return 0;
+    };
+    let length = object.lend_answer_of_view(at);
+    view.put(object);
+    length
+}
+
 /// Opens a closed handle on one more view of the state of a view.
 #[unsafe(no_mangle)]
 pub extern "C" fn camp_view_again(alloc: Global, view: &mut Handle, other: &mut Handle) -> i32
@@ -108,7 +128,7 @@ pub extern "C" fn camp_view_again(alloc: Global, view: &mut Handle, other: &mut 
     ensures opens { OpensViewAgain view.old.keeper.held other.old.keeper.held result other.new.keeper.held }
 {
     let Some(object) = view.take(alloc) else {
-        return CLOSED;
+        return NOT_OPEN;
     };
     let code = open_same_view(alloc, &object, other);
     view.put(object);
@@ -119,10 +139,10 @@ fn open_same_view(alloc: Global, object: &OpenObject, handle: &mut Handle) -> i3
     ensures { OpensViewAgain (Some object.now) handle.old.keeper.held result handle.new.keeper.held }
 {
     let OpenObject::View(view) = object else {
-        return CLOSED;
+        return WRONG_KIND;
     };
     if handle.is_open() {
-        return CLOSED;
+        return ALREADY_OPEN;
     }
     open_shown(alloc, view.again(alloc), handle)
 }

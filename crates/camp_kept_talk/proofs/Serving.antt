@@ -10,17 +10,19 @@ use Rattle.camp_kept_talk.specs.Buffering.{AllAreDurable, FlushesAnswers, MayBeD
 use Rattle.camp_kept.proofs.Prefixes.{prefix_grows, prefix_self, prefix_through}
 use Rattle.camp_kept_talk.specs.Laws.{KeptRequestsAreServedInTurn}
 use Rattle.camp_kept_talk.specs.Promises.{durable_at_least}
-use Rattle.camp_kept_talk.specs.Serving.{KeptCounter, MayKeep, ServesHeld, ServesKept, ServesKeptAt, ServesUnkept, frame_write_as_memory}
+use Rattle.camp_kept_talk.specs.Serving.{IsNotCountableStored, KeptCounter, MayKeep, ServesHeld, ServesKept, ServesKeptAt, ServesUnkept, frame_write_as_memory}
 use Rattle.camp_kept_talk.proofs.Stopping.{leaves_durable}
 use Rattle.camp_kept_talk.specs.declared.faults.StoredFault.{StoredFault}
 use Rattle.camp_kept_talk.specs.declared.faults.StoredFault.TheVariants as fault
 use Rattle.camp_store.specs.Logs.{PersistsTexts}
 use Rattle.camp_talk.specs.Dialogues.{StepsLead}
 use Rattle.camp_talk.specs.Entries.{Entries}
-use Rattle.camp_talk.specs.Frames.{Counter, Serves, ServesAt}
+use Rattle.camp_talk.specs.Frames.{Counter, IsNotCountable, Serves, ServesAt}
 use Rattle.camp_talk.specs.Requests.{AnswersRequest}
 use Rattle.camp_talk.specs.Talks.{AppendsSome}
+use Rattle.camp_talk.specs.declared.faults.TalkFault.TheVariants.{Internal, Memory, Read, Write}
 use Rattle.camp_talk.specs.declared.frames.FrameFault.{FrameFault}
+use Rattle.camp_talk.specs.declared.frames.FrameFault.TheVariants.{Cut, NoNumber, Talk, TooLarge}
 use Rattle.camp_talk.proofs.Growing.{serves_grow}
 use Rattle.camp_talk.proofs.Served.{served_in_turn as served_so}
 
@@ -110,6 +112,25 @@ module _ {D : Type 0} (seen : D → List ℕ) (may_leave : D → List ℕ → Ty
       may_keep (Err why) serves new same may,
       leaves_durable seen may_leave reported durable executed new holds_executed leaves,
     )
+
+-- a fault is reported as it is, but for one of writing
+pub reported_is_counted : (served : ℕ) (why : FrameFault) → IsNotCountable served why → IsNotCountable served (frame_write_as_memory why)
+reported_is_counted served NoNumber is = tt
+reported_is_counted served TooLarge is = tt
+reported_is_counted served Cut is = tt
+reported_is_counted served (Talk Memory) is = tt
+reported_is_counted served (Talk (Read error)) is = tt
+reported_is_counted served (Talk (Write error)) is = tt
+reported_is_counted served (Talk Internal) is = is
+
+-- an answer that could not be written was served
+pub flushing_is_counted : {D : Type 0} (seen : D → List ℕ) (may_leave : D → List ℕ → Type 0) (old new : DurableRepository D) (buffered now : List ℕ)
+    (before after : Option (List ℕ)) (served : ℕ) (why : StoredFault) → FlushesAnswers seen may_leave old buffered before (Err why) new now after
+    → IsNotCountableStored served why
+flushing_is_counted seen may_leave old new buffered now before after served (fault.Commit why) flushes = tt
+flushing_is_counted seen may_leave old new buffered now before after served (fault.Talk why) flushes = tt
+flushing_is_counted seen may_leave old new buffered now before after served (fault.Frame why) flushes = absurd flushes
+flushing_is_counted seen may_leave old new buffered now before after served (fault.Write error) flushes = tt
 
 -- the place of a service, over any durable repository
 abbrev counter : {D : Type 0} → KeptCounter D → Counter

@@ -10,7 +10,7 @@ use Rattle.camp_kept_talk.specs.declared.faults.StoredFault.{StoredFault}
 use Rattle.camp_kept_talk.specs.declared.faults.StoredFault.TheVariants as fault
 use Rattle.camp_kept_talk.specs.declared.frames.FramedStore.{FramedStore}
 use Rattle.camp_talk.specs.Entries.{Entries}
-use Rattle.camp_talk.specs.Frames.{Serves, WritesNot}
+use Rattle.camp_talk.specs.Frames.{IsNotCountable, Serves, WritesNot}
 use Rattle.camp_talk.specs.declared.frames.FrameFault.{FrameFault}
 use Rattle.camp_talk.specs.declared.frames.FrameFault.TheVariants.{Cut, NoNumber, Talk, TooLarge}
 
@@ -59,6 +59,11 @@ module _ {D : Type 0} (seen : D → List ℕ) (may_leave : D → List ℕ → Ty
       Keeps before after × ServesNone remaining rest old.book why new.book × PersistsCalls seen may_leave (accepted_by new) new
   ServesKept remaining rest before after durable old (Err (fault.Write error)) new =
       WritesNot remaining rest before after old.book new.book × PersistsCalls seen may_leave (accepted_by new) new
+
+-- after this number of requests the next one was not served. Internal: its number, counted from 1, is not below 2^64.
+abbrev pub IsNotCountableStored : ℕ → StoredFault → Type 0
+IsNotCountableStored served (fault.Frame why) = IsNotCountable served why
+IsNotCountableStored served other = Unit {0}
 
 -- a framed conversation over a durable repository: that, a reader and a writer, and the number of requests that were
 -- served

@@ -1,8 +1,8 @@
 //! Requests in frames over a durable repository.
-ghost use Rattle.std.specs.Prelude.{◌≡◌, ◌-◌, ◌^◌, true, false, IfOk, MatchResult};
+ghost use Rattle.std.specs.Prelude.{◌≡◌, ◌+◌, ◌-◌, ◌^◌, true, false, IfErr, IfOk, MatchResult};
 ghost use Rattle.camp_kept.specs.Accepting.{StoreContents};
 ghost use Rattle.camp_kept.specs.Persisting.{AreFirstCalls, PersistsCalls, disk_in, may_commit};
-ghost use Rattle.camp_kept_talk.specs.Serving.{ServesKept, frame_write_as_memory};
+ghost use Rattle.camp_kept_talk.specs.Serving.{IsNotCountableStored, ServesKept, frame_write_as_memory};
 ghost use Rattle.camp_kept_talk.specs.Stopping.{CountsStored, StaysStopped, stopped_fault};
 ghost use Rattle.camp_talk.specs.Talks.{HasGrown};
 
@@ -15,7 +15,8 @@ use std::io::{BufRead, Write};
 
 /// Reads a request in its frame and answers it; persists all accepted calls; and then writes the frame of the
 /// answer. True if there may be more; else the input has ended. `served` counts the requests that were
-/// served. If a commit has failed at the disk before, no request is answered.
+/// served: each adds one, and `Internal` comes only if the next one has no number below 2^64. If a commit has
+/// failed at the disk before, no request is answered.
 pub fn serve_kept<D: Disk, R: BufRead, W: Write>(
     alloc: Global,
     kept: &mut DurableRepository<D>,
@@ -30,6 +31,8 @@ pub fn serve_kept<D: Disk, R: BufRead, W: Write>(
         × MatchResult result (λ more. more ≡ false) (λ why. why ≡ stopped_fault) }
     ensures faults { CountsStored result (D.Disk.faults (disk_in kept.old)) (D.Disk.faults (disk_in kept.new)) }
     ensures counts { IfOk result (λ more. more ≡ true → HasGrown served.old served.new) }
+    ensures one { IfOk result (λ more. more ≡ true → served.new ≡ served.old + 1) }
+    ensures internal { IfErr result (IsNotCountableStored served.old) }
     ensures clean { D.Disk.is_clean (disk_in kept.new) ≡ D.Disk.is_clean (disk_in kept.old) }
 {
     let mut frame = Vec::new(alloc);

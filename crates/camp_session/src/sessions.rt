@@ -1,5 +1,5 @@
 //! Repositories that are asked texts.
-ghost use Rattle.std.specs.Prelude.{◌≡◌, [], IfOk};
+ghost use Rattle.std.specs.Prelude.{◌≡◌, [], IfOk, length};
 ghost use Rattle.camp_repo.specs.Limits.{default_bounds};
 ghost use Rattle.camp_session.specs.Sessions.{Asks, Views, new_repository};
 
@@ -14,6 +14,8 @@ use std::marker::Model;
 pub struct Session {
     book: Book<State>,
     answer: Vec<u8>,
+    /// How many commands of the last text were executed.
+    executed: usize,
 }
 
 impl Model for Session {
@@ -25,7 +27,7 @@ impl Model for Session {
 
     ghost coded = { Prim.hlevel (codes, code_of_sets) };
 
-    ghost view = { λ session. record { history = session.book; answer = session.answer.items } };
+    ghost view = { λ session. record { history = session.book; answer = session.answer.items; executed = session.executed } };
 }
 
 impl Session {
@@ -44,15 +46,30 @@ impl Session {
         Ok(Session {
             book,
             answer: Vec::new(alloc),
+            executed: 0,
         })
     }
 
-    /// Executes the commands of a text, which is a conversation of its own.
+    /// Executes the commands of a text, which is a conversation of its own. If memory runs out, exactly the
+    /// first ones were executed, as many as [`executed`](Session::executed) returns.
     pub fn ask(&mut self, alloc: Global, text: &[u8]) -> Result<(), TalkFault>
         ensures asks { Asks self.old text.now result self.new }
     {
         self.answer.clear();
-        answer_request(alloc, &mut self.book, text, &mut self.answer)
+        answer_request(
+            alloc,
+            &mut self.book,
+            text,
+            &mut self.executed,
+            &mut self.answer,
+        )
+    }
+
+    /// Returns how many commands of the last text were executed, each blank line and comment among them.
+    pub fn executed(&self) -> usize
+        ensures executed { result ≡ self.now.executed }
+    {
+        self.executed
     }
 
     /// Returns the answer to the last text; at first it is empty.
@@ -60,6 +77,15 @@ impl Session {
         ensures answer { result.now ≡ self.now.answer }
     {
         &self.answer
+    }
+
+    /// Sets `at` to the first byte of the answer, which stays there until the next text, and returns the number of
+    /// bytes.
+    pub fn lend_answer(&self, at: &mut *const u8) -> usize
+        ensures length { result ≡ length self.now.answer }
+    {
+        *at = self.answer.as_ptr();
+        self.answer.len()
     }
 
     /// Makes a view of the repository as it is now, which shares the state: increments one reference count.

@@ -1,5 +1,5 @@
 //! Repositories as they were at one moment.
-ghost use Rattle.std.specs.Prelude.{◌≡◌, [], IfOk};
+ghost use Rattle.std.specs.Prelude.{◌≡◌, [], IfOk, length};
 ghost use Rattle.camp_session.specs.Sessions.{Sees};
 
 use camp_talk::{State, TalkFault, answer_view};
@@ -27,8 +27,8 @@ impl Model for View {
 
 impl View {
     /// Makes a view of a state, which it shares.
-    pub(crate) fn of(alloc: Global, state: &State) -> Result<View, AllocError>
-        ensures { IfOk result (λ view. view ≡ record { state = state.now; answer = [] }) }
+    pub fn of(alloc: Global, state: &State) -> Result<View, AllocError>
+        ensures shows { IfOk result (λ view. view ≡ record { state = state.now; answer = [] }) }
     {
         let state = state.try_clone()?;
         Ok(View {
@@ -50,6 +50,15 @@ impl View {
         ensures answer { result.now ≡ self.now.answer }
     {
         &self.answer
+    }
+
+    /// Sets `at` to the first byte of the answer, which stays there until the next text, and returns the number of
+    /// bytes.
+    pub fn lend_answer(&self, at: &mut *const u8) -> usize
+        ensures length { result ≡ length self.now.answer }
+    {
+        *at = self.answer.as_ptr();
+        self.answer.len()
     }
 
     /// Makes one more view of the same state.

@@ -1,5 +1,5 @@
 -- Frames of requests and of answers, piece by piece.
-use Rattle.camp_talk.proofs.Words.{◌==◌, ◌≡◌, ◌≢◌, ◌<◌, ◌≤◌, inl, inr, ℕ, Bool, true, false, cond, List, [], ◌∷◌, ◌++◌, length, take, drop, Option, None, Some, Err, refl, sym, ap, subst, ◌∙◌, append_assoc, arith, true≢false, take_all, length-append, length-take, All, All-cons, All-drop, All-head, All-nil, list_all, drop-append_seam, and_parts, Appends, Appends-trans, Consumes, Consumes-trans, append-nil, ◌-◌, lines_of, first_of, AppendsSome, Entries, IsLine, IsNotWriting, IsReading, IsWriting, StopsInLine, Takes}
+use Rattle.camp_talk.proofs.Words.{◌==◌, ◌≡◌, ◌≢◌, ◌<◌, ◌≤◌, inl, inr, ℕ, Bool, true, false, cond, List, [], ◌∷◌, ◌++◌, length, take, drop, Option, None, Some, Err, refl, sym, ap, subst, ◌∙◌, append_assoc, arith, true≢false, take_all, length-append, length-take, All, All-cons, All-drop, All-head, All-nil, list_all, drop-append_seam, and_parts, Appends, Appends-trans, Consumes, Consumes-trans, append-nil, ◌-◌, lines_of, first_of, AppendsSome, Entries, IsLine, IsReading, IsWriting, StopsInLine, Takes}
 use Rattle.std.proofs.Common.{unwrap_or, ◌&&◌}
 use Rattle.std.proofs.lemmas.Bool.{eqb-false}
 use Rattle.std.proofs.lemmas.Bool.Decides.{nat_tests}
@@ -15,9 +15,10 @@ use Rattle.camp_talk.specs.Engine.Framings.{BeginsWithFrame}
 use Rattle.std.proofs.Common.{◌+◌, length-drop, length-take-le, take-append-drop}
 use Rattle.std.specs.List.{position_or_len}
 use Rattle.camp_talk.proofs.LineReads.{line_fed}
-use Rattle.camp_talk.specs.Frames.{AnswersNot, BeginsNoFrame, EndsWithin, HasNoFrame, IsFrame, ReadsCut, ReadsNoFrame, ReadsPart, Serves, WritesNot}
+use Rattle.camp_talk.specs.Frames.{AnswersNot, BeginsNoFrame, EndsWithin, HasNoFrame, IsFrame, IsNotCountable, ReadsCut, ReadsNoFrame, ReadsPart, Serves, WritesNot}
 use Rattle.camp_talk.specs.Inside.Framing.{IsCounted, IsNotCounted, ReadsBytes, ReadsFewer, ReadsFrame, ReadsMore, ReadsNothing}
 use Rattle.camp_talk.specs.Laws.{UnservedBytesHaveNoFrame}
+use Rattle.camp_talk.specs.Requests.{IsUnanswered}
 use Rattle.camp_talk.specs.declared.faults.TalkFault.{TalkFault}
 use Rattle.camp_talk.specs.declared.faults.TalkFault.TheVariants.{Internal, Memory, Read, Write}
 use Rattle.camp_talk.specs.declared.frames.FrameFault.{FrameFault}
@@ -373,6 +374,28 @@ flush_fails digits answer text is a b c d e first second third keeps = (
 
 -- ---- the result of serving
 
+-- each other fault leaves it open how many requests were served
+pub reading_is_counted : (a b : Option (List ℕ)) (served : ℕ) (why : FrameFault) → ReadsNoFrame a b why → IsNotCountable served why
+reading_is_counted a b served NoNumber reads = tt
+reading_is_counted a b served TooLarge reads = tt
+reading_is_counted a b served Cut reads = tt
+reading_is_counted a b served (Talk Memory) reads = tt
+reading_is_counted a b served (Talk (Read error)) reads = tt
+reading_is_counted a b served (Talk (Write error)) reads = tt
+reading_is_counted a b served (Talk Internal) reads = absurd reads
+
+pub answering_is_counted : (served : ℕ) (why : TalkFault) → IsUnanswered why → IsNotCountable served (Talk why)
+answering_is_counted served Memory is = tt
+answering_is_counted served (Read error) is = tt
+answering_is_counted served (Write error) is = tt
+answering_is_counted served Internal is = absurd is
+
+pub writing_is_counted : (served : ℕ) (why : TalkFault) → IsWriting why → IsNotCountable served (Talk why)
+writing_is_counted served Memory is = tt
+writing_is_counted served (Read error) is = tt
+writing_is_counted served (Write error) is = tt
+writing_is_counted served Internal is = absurd is
+
 module _ (a b old new : Option (List ℕ)) (before after : Entries) where
   pub reading_stops : (why : FrameFault) → ReadsNoFrame a b why → Keeps old new → after ≡ before → Serves a b old new before (Err why) after
   reading_stops NoNumber reads keeps same = record { reads = reads; keeps = keeps; same = same }
@@ -383,12 +406,12 @@ module _ (a b old new : Option (List ℕ)) (before after : Entries) where
   reading_stops (Talk (Write error)) reads keeps same = absurd reads
   reading_stops (Talk Internal) reads keeps same = absurd reads
 
-  pub answering_stops : (why : TalkFault) → IsNotWriting why → AnswersNot a b old new before after
+  pub answering_stops : (why : TalkFault) → IsUnanswered why → AnswersNot a b old new before after
       → Serves a b old new before (Err (Talk why)) after
   answering_stops Memory is stops = inr stops
   answering_stops (Read error) is stops = inr stops
   answering_stops (Write error) is stops = absurd is
-  answering_stops Internal is stops = inr stops
+  answering_stops Internal is stops = absurd is
 
   pub writing_stops : (why : TalkFault) → IsWriting why → WritesNot a b old new before after
       → Serves a b old new before (Err (Talk why)) after

@@ -1,10 +1,10 @@
 -- Answering commands and requests removes no call from the history.
-use Rattle.camp_talk.proofs.Words.{◌≡◌, ◌⊎◌, inl, inr, ℕ, Bool, true, List, [], ◌∷◌, Option, Result, Ok, Err, sym, subst, LineFault, AnswersCommand, SessionState, AnswersParsed, RunsOutOfMemory, parsed_command, Entries, Exchange, AnswersInOrder, ParsedCommand}
+use Rattle.camp_talk.proofs.Words.{◌≡◌, ◌⊎◌, inl, inr, ℕ, Bool, true, List, [], ◌∷◌, length, Option, Result, Ok, Err, sym, subst, LineFault, AnswersCommand, SessionState, AnswersParsed, RunsOutOfMemory, parsed_command, Entries, Exchange, AnswersInOrder, ParsedCommand}
 use Rattle.camp_object.specs.Books.{IsEarlier}
 use Rattle.camp_object.proofs.SameBooks.{earlier_same, earlier_self, earlier_through}
 use Rattle.camp_talk.specs.Diagnostics.{no_diagnostic}
 use Rattle.camp_talk.specs.Frames.{Serves}
-use Rattle.camp_talk.specs.Requests.{AnswersRequest, AnswersSome, AsksOneMore}
+use Rattle.camp_talk.specs.Requests.{AnswersRequest, AnswersSome, LosesAnswer}
 use Rattle.camp_talk.specs.declared.faults.TalkFault.TheVariants as talk
 use Rattle.camp_talk.specs.declared.frames.FrameFault.{FrameFault}
 use Rattle.camp_talk.specs.declared.frames.FrameFault.TheVariants as frame
@@ -33,17 +33,17 @@ request_grows before request answer now answers =
     (earlier_through (follow_grow (record { history = before; lines = 0; diagnostic = no_diagnostic }) answers.exchanges answers.middle answers.follow)
     (answers_grow answers.middle answers.last.command answers.last.answer answers.after answers.answers))
 
-some_grow : (before : Entries) (request answer : List ℕ) (now : Entries) → AnswersSome before request answer now → IsEarlier before now
-some_grow before request answer now some = ends some.leaves
+some_grow : (before : Entries) (request answer : List ℕ) (now : Entries) (executed : ℕ) → AnswersSome before request answer now executed
+    → IsEarlier before now
+some_grow before request answer now executed some = ends some.leaves
   where
     so_far : IsEarlier before some.middle.history
     so_far = follow_grow (record { history = before; lines = 0; diagnostic = no_diagnostic }) some.exchanges some.middle some.follow
 
-    ends : ((now ≡ some.middle.history) × (some.front ≡ [])) ⊎ AsksOneMore some.middle some.rest some.front now → IsEarlier before now
+    ends : ((now ≡ some.middle.history) × (executed ≡ length some.exchanges)) ⊎ LosesAnswer some.middle some.rest now (length some.exchanges) executed
+        → IsEarlier before now
     ends (inl still) = subst (λ (l : Entries). IsEarlier before l) (sym still.0) so_far
-    ends (inr more) =
-        subst (λ (l : Entries). IsEarlier before l) (sym more.same)
-        (earlier_through so_far (answers_grow some.middle more.last.command more.last.answer more.reached more.answers))
+    ends (inr more) = earlier_through so_far (tells_grow some.middle (parsed_command more.last.command) more.last.answer now more.reports)
 
 -- or even read
 pub serves_grow : (a b old new : Option (List ℕ)) (before : Entries) (came : Result Bool FrameFault) (after : Entries)
@@ -53,11 +53,8 @@ serves_grow a b old new before (Err (frame.Talk (talk.Write error))) after serve
     request_grows before serves.service.request serves.service.answer after serves.answers
 serves_grow a b old new before (Err (frame.Talk talk.Memory)) after (inl none) = earlier_same before after none.same
 serves_grow a b old new before (Err (frame.Talk talk.Memory)) after (inr some) =
-    some_grow before some.service.request some.service.answer after some.answers
+    some_grow before some.service.request some.service.answer after some.executed some.answers
 serves_grow a b old new before (Err (frame.Talk (talk.Read error))) after (inl none) = earlier_same before after none.same
 serves_grow a b old new before (Err (frame.Talk (talk.Read error))) after (inr some) =
-    some_grow before some.service.request some.service.answer after some.answers
-serves_grow a b old new before (Err (frame.Talk talk.Internal)) after (inl none) = earlier_same before after none.same
-serves_grow a b old new before (Err (frame.Talk talk.Internal)) after (inr some) =
-    some_grow before some.service.request some.service.answer after some.answers
+    some_grow before some.service.request some.service.answer after some.executed some.answers
 serves_grow a b old new before other after serves = earlier_same before after serves.same

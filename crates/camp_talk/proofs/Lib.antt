@@ -9,6 +9,7 @@ pub mod FrameLemmas
 pub mod GroupLemmas
 pub mod Growing
 pub mod HelpLemmas
+pub mod LineCounts
 pub mod LineReads
 pub mod Loading
 pub mod LoadingKept

@@ -1,5 +1,5 @@
 -- Reads a line piece by piece, and stores as much of it as fits.
-use Rattle.camp_talk.proofs.Words.{◌≡◌, ◌≢◌, ℕ, zero, suc, ◌+◌, ◌-◌, ◌<◌, ◌≤◌, min, Bool, true, false, cond, ◌==◌, nat_lt, List, [], ◌∷◌, ◌++◌, length, take, drop, position_or_len, Consumes, Consumes-trans, drop-append_seam, take-append_seam, All-append, All-cons, All-nil, as_read, Seen, Option, refl, sym, ap, subst, ◌∙◌, append_assoc, append-nil, arith, take_all, take-take, length-append, length-take-le, eqb-true, zero-le, take_more, passes_at_first, Ends, EndsAt, IsLine, ReadsLine, StopsAtLine, StopsInLine, Takes, lines_of, with_last, feed_of, ended, seen_of, slice_set, not}
+use Rattle.camp_talk.proofs.Words.{◌≡◌, ◌≢◌, ℕ, zero, suc, ◌+◌, ◌-◌, ◌<◌, ◌≤◌, min, Bool, true, false, cond, ◌==◌, nat_lt, List, [], ◌∷◌, ◌++◌, length, take, drop, position_or_len, Consumes, Consumes-trans, drop-append_seam, take-append_seam, All-append, All-cons, All-nil, as_read, Seen, Option, refl, sym, ap, subst, ◌∙◌, append_assoc, append-nil, arith, take_all, take-take, length-append, length-take-le, eqb-true, zero-le, take_more, passes_at_first, Ends, EndsAt, IsLine, ReadsLine, StopsAtLine, StopsInLine, Takes, with_last, feed_of, ended, seen_of, slice_set, not}
 use Rattle.std.proofs.lemmas.Bool.{eqb-false, ltb-false, ltb-true}
 use Rattle.std.proofs.lemmas.Bool.Decides.{nat_tests}
 use Rattle.camp_talk.proofs.Cuts.{lines-last, lines-line}

@@ -1,5 +1,5 @@
 -- Steps of a conversation, one after the other.
-use Rattle.camp_talk.proofs.Words.{refl, sym, ap, subst, ◌∙◌, ◌≢◌, ⊎_elim, cases_Bool, append-nil, flat_map, flat_map-append, Gives, lines_of, LineFault, ScriptFault, AnswersCommand, SessionState, AnswersParsed, RunsOutOfMemory, parsed_command, IsCommand, IsLeft, Entries, IsReading, IsResponse, IsWriting, UpdatesDiagnostic, UpdatesDiagnosticOf, lines_in, is_silent, answer_or_memory, ParsedCommand, ◌≡◌, ◌≤◌, ◌⊎◌, inl, inr, ℕ, ◌+◌, ◌^◌, Bool, true, false, List, [], ◌∷◌, ◌++◌, length, Option, Result, Ok, Err, Vec, IfOk, OnErr, Appends, Consumes, Appends-nil, Appends-trans, Consumes-nil, Consumes-trans, Exchange, Exchanges, AnswersInOrder, HasAnswered, ReadsNone, ReadsTooMuch, ReadsWithin, Stops, TakesStep}
+use Rattle.camp_talk.proofs.Words.{refl, sym, ap, subst, ◌∙◌, ◌≢◌, ⊎_elim, cases_Bool, append-nil, flat_map, flat_map-append, Gives, lines_of, LineFault, ScriptFault, AnswersCommand, SessionState, AnswersParsed, RunsOutOfMemory, parsed_command, IsCommand, IsLeft, Entries, IsReading, IsResponse, IsWriting, UpdatesDiagnostic, UpdatesDiagnosticOf, lines_in, is_silent, answer_or_memory, ParsedCommand, ◌≡◌, ◌≤◌, ◌⊎◌, inl, inr, ℕ, ◌+◌, ◌^◌, Bool, true, false, List, [], ◌∷◌, ◌++◌, length, length-append, Option, Result, Ok, Err, Vec, IfOk, OnErr, Appends, Consumes, Appends-nil, Appends-trans, Consumes-nil, Consumes-trans, Exchange, Exchanges, AnswersInOrder, HasAnswered, ReadsNone, ReadsTooMuch, ReadsWithin, Stops, TakesStep}
 use Rattle.std.specs.Io.KnownBytes.{Keeps}
 use Rattle.camp_talk.specs.Diagnostics.{Diagnostic}
 use Rattle.camp_talk.specs.Answers.{UpdatesDiagnosticAt}
@@ -105,5 +105,14 @@ module _ (a b c old held new : Option (List ℕ)) (first middle last : SessionSt
           ap (λ bytes. flat_map part holds.exchanges ++ bytes) (sym is ∙ sym (append-nil (part more)))
           ∙ sym (flat_map-append part holds.exchanges (more ∷ []))
 
+  pub counts_one_more : (holds : HasAnswered a b old held first middle) (exchanges : Exchanges b c held new true middle last)
+      → length (holds_on holds exchanges).exchanges ≡ length holds.exchanges + 1
+  unfolding holds_on
+  counts_one_more holds exchanges = length-append holds.exchanges (exchanges.exchange ∷ [])
+
 pub begins_so : (a old : Option (List ℕ)) (first : SessionState) → HasAnswered a a old old first first
 begins_so a old first = record { exchanges = []; follow = refl; reads = Consumes-nil a; writes = Appends-nil old }
+
+pub counts_none : (a old : Option (List ℕ)) (first : SessionState) → length (begins_so a old first).exchanges ≡ 0
+unfolding begins_so
+counts_none a old first = refl

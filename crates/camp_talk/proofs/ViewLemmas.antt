@@ -1,9 +1,9 @@
 -- The answers of a view, command by command.
-use Rattle.camp_talk.proofs.Words.{◌≡◌, ℕ, true, false, List, [], ◌∷◌, ◌++◌, length, Some, ap, append-nil, append_assoc, flat_map, flat_map-append, refl, subst, sym, take, take-append_seam, ◌∙◌, Call, Exchange, IsCommand, IsNotWriting, IsReading}
-use Rattle.camp_talk.specs.Inside.Viewing.{HasAnsweredView, SeesStep}
+use Rattle.camp_talk.proofs.Words.{◌≡◌, ℕ, true, false, List, [], ◌∷◌, ◌++◌, length, Some, ap, append-nil, append_assoc, flat_map, flat_map-append, refl, subst, sym, take, take-append_seam, ◌∙◌, Call, Exchange, IsCommand, IsReading, Consumes, Option, arith, lines_of}
+use Rattle.camp_talk.specs.Inside.Viewing.{HasAnsweredView, SeesStep, IsUnseen, IsUnshown}
 use Rattle.camp_talk.specs.Views.{AnswersView, AnswersViewCommand, SeesAll}
 use Rattle.camp_talk.specs.declared.faults.TalkFault.{TalkFault}
-use Rattle.camp_talk.specs.declared.faults.TalkFault.TheVariants.{Internal}
+use Rattle.camp_talk.specs.declared.faults.TalkFault.TheVariants.{Internal, Memory, Read, Write}
 use Rattle.camp_call.specs.Calls.{is_writing}
 use Rattle.camp_object.specs.declared.objects.Decided.TheVariants.{Next}
 use Rattle.camp_repo.specs.ObjectLaws.{repository_is_lawful}
@@ -27,10 +27,19 @@ one_after : (part : Exchange → List ℕ) (exchanges : List Exchange) (more : E
 one_after part exchanges more =
     ap (λ bytes. flat_map part exchanges ++ bytes) (sym (append-nil (part more))) ∙ sym (flat_map-append part exchanges (more ∷ []))
 
--- if reading failed, no writer did
-pub not_writing : (why : TalkFault) → IsReading why → IsNotWriting why
-not_writing Internal is = absurd is
-not_writing other is = is
+module _ (a b : Option (List ℕ)) (before : ℕ) where
+  -- no command was read
+  pub unread : (why : TalkFault) → IsReading why → IsUnseen a b before why
+  unread Internal is = absurd is
+  unread other is = is
+
+  -- or it was not answered
+  pub unshown : (command : List ℕ) → Consumes a b command → (count : ℕ) → count ≡ length (lines_of command) → (why : TalkFault)
+      → IsUnshown before count why → IsUnseen a b before why
+  unshown command reads count is Memory why = tt
+  unshown command reads count is (Read error) why = absurd why
+  unshown command reads count is (Write error) why = why
+  unshown command reads count is Internal many = record { command = command; reads = reads; many = omega (arith, is, many) }
 
 -- bytes that were appended to an answer are removed again
 pub taken_back : (old more new : List ℕ) → new ≡ old ++ more → take (length old) new ≡ old

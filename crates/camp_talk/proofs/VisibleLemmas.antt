@@ -1,9 +1,9 @@
 -- Whatever bytes are, they are shown by printable ones.
-use Rattle.camp_talk.proofs.Words.{◌≡◌, ◌<◌, ◌==◌, ◌+◌, ◌-◌, ℕ, Bool, true, false, cond, List, [], ◌∷◌, refl, ap, subst, sym, ◌∙◌, arith, nat_lt, eqb-true, All-head, All-tail}
+use Rattle.camp_talk.proofs.Words.{◌≡◌, ◌<◌, ◌==◌, ◌+◌, ◌-◌, ℕ, Bool, true, false, cond, [], ◌∷◌, refl, subst, sym, ◌∙◌, arith, nat_lt, eqb-true, All-head, All-tail}
 use Rattle.std.proofs.lemmas.Bool.{ltb-false, ltb-true}
 use Rattle.std.proofs.lemmas.Bool.Decides.{nat_tests}
 use Rattle.std.proofs.lemmas.List.Folds.{list_all-append}
-use Rattle.std.specs.List.{All, list_all}
+use Rattle.std.specs.List.{list_all}
 use Rattle.std.specs.Prelude.{◌/◌, ◌%◌}
 use Rattle.camp_base.specs.Signs.{is_printing}
 use Rattle.camp_notation.specs.Words.{hex_digit}

@@ -1,5 +1,5 @@
 -- Requests in frames: each comes after a line with its number of bytes, and so does its answer.
-use Rattle.std.specs.Prelude.{◌≡◌, ◌≢◌, ◌<◌, ◌≤◌, ◌⊎◌, ℕ, Bool, true, false, List, [], ◌∷◌, ◌++◌, length, Option, OnSome, None, Some, Result, Ok, Err, codes}
+use Rattle.std.specs.Prelude.{◌≡◌, ◌≢◌, ◌<◌, ◌≤◌, ◌⊎◌, ◌+◌, ◌^◌, ℕ, Bool, true, false, List, [], ◌∷◌, ◌++◌, length, Option, OnSome, None, Some, Result, Ok, Err, codes}
 use Rattle.std.specs.Fmt.{decimal}
 use Rattle.std.specs.List.{flat_map}
 use Rattle.std.specs.Io.KnownBytes.{Appends, Consumes, IsAtEnd, Keeps}
@@ -98,6 +98,11 @@ module _ (remaining rest : Option (List ℕ)) where
   ReadsNoFrame (Talk (Write error)) = ⊥
   ReadsNoFrame (Talk Internal) = ⊥
 
+-- after this number of requests the next one was not served. Internal: its number, counted from 1, is not below 2^64.
+abbrev pub IsNotCountable : ℕ → FrameFault → Type 0
+IsNotCountable served (Talk Internal) = 2 ^ 64 ≤ served + 1
+IsNotCountable served other = Unit {0}
+
 -- by that, and the content of a writer, before and after, if that is known
 module _ (remaining rest old new : Option (List ℕ)) where
   -- exactly the frame of a request was read, and exactly that of its answer was written
@@ -132,7 +137,8 @@ module _ (remaining rest old new : Option (List ℕ)) where
     pub service : Service
     pub is : IsFrame service.request service.frame
     pub reads : Consumes remaining rest service.frame
-    pub answers : AnswersSome before service.request service.answer after
+    pub executed : ℕ
+    pub answers : AnswersSome before service.request service.answer after executed
     pub keeps : Keeps old new
 
   -- a request was read and answered, and a prefix of the frame of its answer was written
@@ -145,7 +151,7 @@ module _ (remaining rest old new : Option (List ℕ)) where
 
   -- the service of one request. Ok: whether there may be more, or else the input has ended. NoNumber, TooLarge or Cut:
   -- no frame was read. Memory, Read: no frame was read, or a request was not answered whole, and nothing was written.
-  -- Write: the answer could not be written. Internal: nothing was read, or a request was not answered whole.
+  -- Write: the answer could not be written. Internal: nothing was read.
   abbrev pub Serves : Entries → Result Bool FrameFault → Entries → Type 0
   Serves before (Ok true) after = ServesOne before after
   Serves before (Ok false) after = ServesNoMore before after
@@ -155,7 +161,7 @@ module _ (remaining rest old new : Option (List ℕ)) where
   Serves before (Err (Talk Memory)) after = ServesNoFrame before (Talk Memory) after ⊎ AnswersNot before after
   Serves before (Err (Talk (Read error))) after = ServesNoFrame before (Talk (Read error)) after ⊎ AnswersNot before after
   Serves before (Err (Talk (Write error))) after = WritesNot before after
-  Serves before (Err (Talk Internal)) after = StaysStill before after ⊎ AnswersNot before after
+  Serves before (Err (Talk Internal)) after = StaysStill before after
 
 -- requests are answered one after the other, from these accepted calls
 abbrev pub ServedInTurn : Entries → List Service → Entries → Type 0

@@ -2,5 +2,6 @@
 pub mod Framing
 pub mod ExecutingNext
 pub mod Parts
+pub mod RequestSteps
 pub mod Responses
 pub mod Viewing

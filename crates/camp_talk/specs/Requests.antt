@@ -1,11 +1,14 @@
 -- The answer to a request: its bytes are a conversation of their own.
-use Rattle.std.specs.Prelude.{◌≡◌, ◌⊎◌, ℕ, List, [], ◌++◌}
-use Rattle.std.specs.List.{flat_map}
+use Rattle.std.specs.Prelude.{◌≡◌, ◌⊎◌, ◌+◌, ℕ, List, [], ◌++◌, length}
+use Rattle.std.specs.List.{All, flat_map}
 use Rattle.camp_talk.specs.Diagnostics.{no_diagnostic}
-use Rattle.camp_talk.specs.Answers.{AnswersCommand, SessionState}
+use Rattle.camp_talk.specs.Answers.{AnswersCommand, AnswersParsed, SessionState}
+use Rattle.camp_talk.specs.Parsing.{parsed_command}
 use Rattle.camp_talk.specs.Cutting.{IsCommand, IsLeft}
 use Rattle.camp_talk.specs.Entries.{Entries}
 use Rattle.camp_talk.specs.Talks.{AnswersInOrder, Exchange}
+use Rattle.camp_talk.specs.declared.faults.TalkFault.{TalkFault}
+use Rattle.camp_talk.specs.declared.faults.TalkFault.TheVariants.{Internal, Memory, Read, Write}
 
 -- a request is commands, one after the other, and perhaps a last one cut off by its end; the answer is that of each,
 -- in order. It begins with these accepted calls, and leaves those. Lines count from its start.
@@ -21,25 +24,45 @@ pub record AnswersRequest (history : Entries) (request answer : List ℕ) (now :
   pub asks : request ≡ flat_map (λ exchange. exchange.command) exchanges ++ last.command
   pub reports : answer ≡ flat_map (λ exchange. exchange.answer) exchanges ++ last.answer
 
--- the next command of a request was executed, or what its end leaves of one, and a prefix of its answer is there
-pub record AsksOneMore (middle : SessionState) (rest front : List ℕ) (now : Entries) : Type 0 where
+-- bytes of at most one command count as one, unless there are none
+abbrev pub one_unless_empty : List ℕ → ℕ
+one_unless_empty [] = 0
+one_unless_empty bytes = 1
+
+-- a request has this number of commands. Each blank line and each comment is a command that asks nothing; what the end
+-- of the request leaves of a command is one too, unless it is nothing.
+pub record HasCommands (request : List ℕ) (count : ℕ) : Type 0 where
+  pub whole : List (List ℕ)
+  pub left : List ℕ
+  pub are : All IsCommand whole
+  pub is : IsLeft left
+  pub parts : request ≡ flat_map (λ command. command) whole ++ left
+  pub counts : count ≡ length whole + one_unless_empty left
+
+-- the next command of a request was executed, or what its end leaves of one, but its answer is not there; this number
+-- of commands were executed before it
+pub record LosesAnswer (middle : SessionState) (rest : List ℕ) (now : Entries) (before executed : ℕ) : Type 0 where
   pub last : Exchange
   pub more : List ℕ
   pub is : IsCommand last.command ⊎ (IsLeft last.command × (more ≡ []))
-  pub reached : SessionState
-  pub answers : AnswersCommand middle last.command last.answer reached
-  pub same : now ≡ reached.history
+  pub reports : AnswersParsed middle (parsed_command last.command) last.answer now
   pub asks : rest ≡ last.command ++ more
-  pub unsaid : List ℕ
-  pub reports : last.answer ≡ front ++ unsaid
+  pub counts : executed ≡ before + one_unless_empty last.command
 
--- some commands of a request were answered, one after the other, and perhaps one more was executed
-pub record AnswersSome (history : Entries) (request answer : List ℕ) (now : Entries) : Type 0 where
+-- exactly the first commands of a request were executed, this number of them, one after the other. Their answers are
+-- there, but perhaps that of the last one.
+pub record AnswersSome (history : Entries) (request answer : List ℕ) (now : Entries) (executed : ℕ) : Type 0 where
   pub exchanges : List Exchange
   pub middle : SessionState
   pub follow : AnswersInOrder (record { history = history; lines = 0; diagnostic = no_diagnostic }) exchanges middle
   pub rest : List ℕ
   pub asks : request ≡ flat_map (λ exchange. exchange.command) exchanges ++ rest
-  pub front : List ℕ
-  pub reports : answer ≡ flat_map (λ exchange. exchange.answer) exchanges ++ front
-  pub leaves : ((now ≡ middle.history) × (front ≡ [])) ⊎ AsksOneMore middle rest front now
+  pub reports : answer ≡ flat_map (λ exchange. exchange.answer) exchanges
+  pub leaves : ((now ≡ middle.history) × (executed ≡ length exchanges)) ⊎ LosesAnswer middle rest now (length exchanges) executed
+
+-- why a request is not answered whole: memory ran out, or its bytes could not be read
+abbrev pub IsUnanswered : TalkFault → Type 0
+IsUnanswered Memory = Unit {0}
+IsUnanswered (Read error) = Unit {0}
+IsUnanswered (Write error) = ⊥
+IsUnanswered Internal = ⊥

@@ -1,36 +1,46 @@
 //! Requests, each of which is a conversation of its own.
-ghost use Rattle.std.specs.Prelude.{◌≡◌, ◌++◌, List, IfErr, IfOk, ℕ};
-ghost use Rattle.camp_talk.specs.Inside.Responses.{IsNotWriting};
-ghost use Rattle.camp_talk.specs.Requests.{AnswersRequest, AnswersSome};
+ghost use Rattle.std.specs.Prelude.{◌≡◌, ◌++◌, true, List, IfErr, IfOk, MatchResult, OnOk, ℕ};
+ghost use Rattle.camp_talk.specs.Inside.RequestSteps.{AppendsStep, IsHaltOf};
+ghost use Rattle.camp_talk.specs.Inside.Responses.{answer_or_memory};
+ghost use Rattle.camp_talk.specs.Requests.{AnswersRequest, AnswersSome, HasCommands, IsUnanswered, one_unless_empty};
+ghost use Rattle.camp_talk.specs.Talks.{HasGrown};
 
-use crate::talks::take_step;
+use crate::lines::hold;
+use crate::talks::execute_next;
 use crate::{Diagnostic, TalkFault};
 use camp_repo::{Book, State};
-use std::alloc::Global;
+use std::alloc::{AllocError, Global};
+use std::io::BufRead;
 
 /// Executes a request and appends its answer: that of a conversation of exactly these bytes, which begins at
 /// the book as it is. A body or a group that has not ended has its fault; an empty request has an empty
-/// answer; several commands have their answers in order. Lines count from the start of the request. After a
-/// fault the book has the effects of the commands before it; a command whose answer is not there whole may
-/// have been executed.
-#[tactic(auto, using(crate::proofs::StepLemmas::begins_so, crate::proofs::StepLemmas::holds_on))]
+/// answer; several commands have their answers in order. Lines count from the start of the request.
+///
+/// `executed` becomes the number of commands that were executed, each blank line and comment among them. After
+/// a fault these are the first ones of the request, the book has their effects and no others, and their
+/// answers are there, except perhaps the last one.
+#[tactic(auto, using(crate::proofs::RequestLemmas::begins_executing))]
 pub fn answer_request(
     alloc: Global,
     book: &mut Book<State>,
     request: &[u8],
+    executed: &mut usize,
     answer: &mut Vec<u8>,
 ) -> Result<(), TalkFault>
     ensures answers { IfOk result (λ _. (text : List ℕ) × (answer.new.items ≡ answer.old.items ++ text)
         × AnswersRequest book.old request.now text book.new) }
-    ensures some { IfErr result (λ why. (text : List ℕ) × (answer.new.items ≡ answer.old.items ++ text)
-        × AnswersSome book.old request.now text book.new) }
-    ensures unwritten { IfErr result IsNotWriting }
+    ensures all_executed { OnOk result (HasCommands request.now executed.new) }
+    ensures some_executed { IfErr result (λ why. (text : List ℕ) × (answer.new.items ≡ answer.old.items ++ text)
+        × AnswersSome book.old request.now text book.new executed.new) }
+    ensures unanswered { IfErr result IsUnanswered }
 {
     let mut reader = request;
     let mut lines = 0;
     let mut diagnostic = Diagnostic::new(alloc);
+    *executed = 0;
     loop {
-        match take_step(
+        let after = executed.saturating_add(one_unless_empty(reader));
+        match append_step(
             alloc,
             book,
             &mut lines,
@@ -38,20 +48,77 @@ pub fn answer_request(
             &mut reader,
             answer,
         ) {
-            Ok(true) => {}
-            Ok(false) => return Ok(()),
-            Err(why) => return Err(in_memory(why)),
+            Ok(true) => *executed = after,
+            Ok(false) => {
+                *executed = after;
+                return Ok(());
+            }
+            Err(Halt::Before(why)) => return Err(why),
+            Err(Halt::After) => {
+                *executed = after;
+                return Err(TalkFault::Memory);
+            }
         }
     }
 }
 
-// Returns why an answer that is written to memory could not be made: if it could not be written, memory ran
-// out.
-fn in_memory(why: TalkFault) -> TalkFault
-    ensures { IsNotWriting result }
+fn one_unless_empty(bytes: &[u8]) -> usize
+    ensures { result ≡ one_unless_empty bytes.now }
 {
-    match why {
-        TalkFault::Write(_) => TalkFault::Memory,
-        other => other,
+    if bytes.is_empty() {
+        return 0;
+    }
+    1
+}
+
+/// Where a request stops.
+#[derive(Clone, Copy)]
+pub(crate) enum Halt {
+    /// Before a command, which was not executed, for this reason.
+    Before(TalkFault),
+    /// After a command that was executed: its answer could not be stored.
+    After,
+}
+
+// Reads a command, executes it and appends its answer. True if there may be more; else the input has ended.
+// `lines` counts the lines that were read.
+fn append_step<R: BufRead>(
+    alloc: Global,
+    book: &mut Book<State>,
+    lines: &mut u64,
+    diagnostic: &mut Diagnostic,
+    reader: &mut R,
+    answer: &mut Vec<u8>,
+) -> Result<bool, Halt>
+    ensures appends { AppendsStep (R.remaining reader.old) (R.remaining reader.new) answer.old.items answer.new.items
+        (record { history = book.old; lines = lines.old; diagnostic = diagnostic.old })
+        result (record { history = book.new; lines = lines.new; diagnostic = diagnostic.new }) }
+    ensures counts { IfOk result (λ more. more ≡ true → HasGrown lines.old lines.new) }
+{
+    let executed = match execute_next(alloc, book, *lines, diagnostic, reader) {
+        Ok(executed) => executed,
+        Err(why) => return Err(Halt::Before(why)),
+    };
+    append_response(answer, &executed.response)?;
+    *lines = executed.lines;
+    Ok(executed.is_whole)
+}
+
+// Appends the answer to a command: a text, or out of memory. If it can't be stored, the answer is unchanged;
+// a command that ran out of memory was not executed.
+fn append_response(answer: &mut Vec<u8>, response: &Result<Vec<u8>, AllocError>) -> Result<(), Halt>
+    ensures { MatchResult result
+        (λ _. answer.new.items ≡ answer.old.items ++ answer_or_memory response.now)
+        (λ halt. (answer.new.items ≡ answer.old.items) × IsHaltOf response.now halt) }
+{
+    match response {
+        Ok(text) => match hold(answer, text) {
+            Ok(()) => Ok(()),
+            Err(_) => Err(Halt::After),
+        },
+        Err(_) => match hold(answer, b"memory\n") {
+            Ok(()) => Ok(()),
+            Err(_) => Err(Halt::Before(TalkFault::Memory)),
+        },
     }
 }

@@ -1,7 +1,7 @@
 //! Serving one request in its frame.
 ghost use Rattle.std.specs.Prelude.{◌≡◌, ◌+◌, [], true, IfErr, IfOk, MatchOption, MatchResult, OnErr};
 ghost use Rattle.std.specs.Io.KnownBytes.{Appends, Consumes};
-ghost use Rattle.camp_talk.specs.Frames.{ReadsNoFrame, Serves, framed};
+ghost use Rattle.camp_talk.specs.Frames.{IsNotCountable, ReadsNoFrame, Serves, framed};
 ghost use Rattle.camp_talk.specs.Inside.Framing.{IsCounted, IsNotCounted, ReadsBytes, ReadsFewer, ReadsFrame, ReadsMore, ReadsNothing};
 ghost use Rattle.camp_talk.specs.Inside.Parts.{IsReading};
 ghost use Rattle.camp_talk.specs.Inside.Responses.{IsWriting};
@@ -21,8 +21,9 @@ const MAX_REQUEST: u64 = 268_435_456;
 
 /// Reads a request in its frame, answers it over a book at seat 0, writes the frame of the answer and
 /// flushes. True if there may be more; else the input has ended. `served` counts the requests that were
-/// served: each adds one. After a fault of the frame exactly a line was read, or the input ended within the
-/// frame; no whole frame is read and not answered.
+/// served: each adds one, and `Internal` comes only if the next one has no number below 2^64. After a fault of
+/// the frame exactly a line was read, or the input ended within the frame; no whole frame is read and not
+/// answered.
 pub fn serve<R: BufRead, W: Write>(
     alloc: Global,
     book: &mut Book<State>,
@@ -34,6 +35,7 @@ pub fn serve<R: BufRead, W: Write>(
         book.old result book.new }
     ensures counts { IfOk result (λ more. more ≡ true → HasGrown served.old served.new) }
     ensures one { IfOk result (λ more. more ≡ true → served.new ≡ served.old + 1) }
+    ensures internal { IfErr result (IsNotCountable served.old) }
 {
     let Some(after) = served.checked_add(1) else {
         return Err(FrameFault::Talk(TalkFault::Internal));
@@ -41,8 +43,9 @@ pub fn serve<R: BufRead, W: Write>(
     let Some(request) = read_request(alloc, reader)? else {
         return Ok(false);
     };
+    let mut executed = 0;
     let mut answer = Vec::new(alloc);
-    answer_request(alloc, book, &request, &mut answer)?;
+    answer_request(alloc, book, &request, &mut executed, &mut answer)?;
     write_frame(writer, &answer)?;
     *served = after;
     Ok(true)

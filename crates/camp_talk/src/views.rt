@@ -3,8 +3,8 @@ ghost use Rattle.std.specs.Prelude.{◌≡◌, ◌++◌, ◌+◌, ◌^◌, ◌<�
 ghost use Rattle.camp_script.specs.Gives.{Gives};
 ghost use Rattle.camp_script.specs.Lines.{lines_of};
 ghost use Rattle.camp_script.specs.declared.faults.LineFault.{LineFault as SpecFault};
-ghost use Rattle.camp_talk.specs.Inside.Responses.{IsNotWriting};
-ghost use Rattle.camp_talk.specs.Inside.Viewing.{SeesStep};
+ghost use Rattle.camp_talk.specs.Inside.Viewing.{SeesStep, IsUnseen, IsUnshown};
+ghost use Rattle.camp_talk.specs.Requests.{IsUnanswered};
 ghost use Rattle.camp_talk.specs.Talks.{HasGrown};
 ghost use Rattle.camp_talk.specs.Views.{AnswersView, ShowsAnswer, beyond_text};
 ghost use Rattle.camp_talk.specs.declared.questions.ParsedCommand.{ParsedCommand as SpecParsedCommand};
@@ -24,7 +24,7 @@ use std::io::BufRead;
 
 /// Appends the answer to a request to a state: that of a conversation at this state, except that a command
 /// which would write, or asks about the history or, as `why`, about another command, has a fault of its own.
-/// After a fault the answer is unchanged.
+/// Only if memory runs out, or the request can't be read, there is no answer, and `answer` is unchanged.
 #[tactic(auto, using(crate::proofs::ViewLemmas::begins_view, crate::proofs::ViewLemmas::sees_on))]
 pub fn answer_view(
     alloc: Global,
@@ -35,7 +35,7 @@ pub fn answer_view(
     ensures answers { IfOk result (λ _. (text : List ℕ) × (answer.new.items ≡ answer.old.items ++ text)
         × AnswersView state.now request.now text) }
     ensures kept { OnErr result (answer.new.items ≡ answer.old.items) }
-    ensures unwritten { IfErr result IsNotWriting }
+    ensures unanswered { IfErr result IsUnanswered }
 {
     let start = answer.len();
     let mut reader = request;
@@ -65,7 +65,7 @@ fn see<R: BufRead>(
         answer.old.items answer.new.items state.now lines.old more lines.new) }
     ensures counts { IfOk result (λ more. more ≡ true → HasGrown lines.old lines.new) }
     ensures kept { OnErr result (answer.new.items ≡ answer.old.items) }
-    ensures unwritten { IfErr result IsNotWriting }
+    ensures unseen { IfErr result (IsUnseen (R.remaining reader.old) (R.remaining reader.new) lines.old) }
 {
     let command = match read_command(alloc, reader) {
         Ok(command) => command,
@@ -93,7 +93,7 @@ fn append_view(
         × ((reading : Result SpecParsedCommand SpecFault) → Gives command.now.parsed reading → ShowsAnswer state.now lines.old reading text)) }
     ensures counts { IfOk result (λ _. (lines.new ≡ lines.old + length (lines_of command.now.bytes.items)) × (lines.new < 2 ^ 64)) }
     ensures kept { OnErr result (answer.new.items ≡ answer.old.items) }
-    ensures unwritten { IfErr result IsNotWriting }
+    ensures unshown { IfErr result (IsUnshown lines.old (length (lines_of command.now.bytes.items))) }
 {
     let Some(after) = lines.checked_add(count_lines(&command.bytes)) else {
         return Err(TalkFault::Internal);
@@ -101,7 +101,9 @@ fn append_view(
     let Ok(text) = show(alloc, state, *lines, &command.parsed) else {
         return Err(TalkFault::Memory);
     };
-    hold(answer, &text)?;
+    let Ok(()) = hold(answer, &text) else {
+        return Err(TalkFault::Memory);
+    };
     *lines = after;
     Ok(())
 }

@@ -21,13 +21,6 @@ IsWriting (Read error) = ⊥
 IsWriting (Write error) = Unit {0}
 IsWriting Internal = ⊥
 
--- the fault was not of the writer
-abbrev pub IsNotWriting : TalkFault → Type 0
-IsNotWriting Memory = Unit {0}
-IsNotWriting (Read error) = Unit {0}
-IsNotWriting (Write error) = ⊥
-IsNotWriting Internal = Unit {0}
-
 -- the text of the result of a question: its answer, or its refusal as that of a call
 abbrev pub RendersFound : {A : Type 0} → (A → List ℕ) → Result A Unanswered → List ℕ → Type 0
 RendersFound text_of (Ok answer) text = text ≡ text_of answer

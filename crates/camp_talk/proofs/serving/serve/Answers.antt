@@ -1,6 +1,6 @@
 use Rattle.camp_talk.proofs.Words.{◌++◌, List, ℕ, ap, rules, subst, ◌∙◌, sym, Appends, AppendsSome, Keeps-refl}
 use Rattle.std.specs.Prelude.{MatchOption}
-use Rattle.camp_talk.proofs.FrameLemmas.{answering_stops, writing_stops}
+use Rattle.camp_talk.proofs.FrameLemmas.{answering_is_counted, answering_stops, reading_is_counted, writing_is_counted, writing_stops}
 use Rattle.camp_talk.specs.Frames.{framed}
 use Rattle.camp_talk.specs.Inside.Framing.{ReadsFrame, ReadsNothing}
 use Rattle.camp_talk.specs.Requests.{AnswersRequest, AnswersSome}
@@ -28,12 +28,13 @@ returns-in_err-answer_request-clause-serves g c =
     let then = (goal.at.returns-in_err-answer_request-clause-serves g c).After-answer_request in
     let held = g.W.Write.contents c.args.writer.now in
     let frame = frame g then in
-    let (text, is, some) = c.in_err-answer_request.ensures.some in
-    let stops = answering_stops _ _ held held c.args.book.now c.answer_request.new.book _ c.in_err-answer_request.ensures.unwritten (record {
+    let (text, is, some) = c.in_err-answer_request.ensures.some_executed in
+    let stops = answering_stops _ _ held held c.args.book.now c.answer_request.new.book _ c.in_err-answer_request.ensures.unanswered (record {
       service = record { request = c.in-Some-2.request.items; frame = frame.frame; answer = text };
       is = frame.is;
       reads = frame.reads;
-      answers = subst (λ (bytes : List ℕ). AnswersSome c.args.book.now bytes text c.answer_request.new.book) c.deref.ensures.value some;
+      executed = c.answer_request.new.executed;
+      answers = subst (λ (bytes : List ℕ). AnswersSome c.args.book.now bytes text c.answer_request.new.book c.answer_request.new.executed) c.deref.ensures.value some;
       keeps = Keeps-refl held;
     }) in
     search (rules, stops)
@@ -65,3 +66,18 @@ returns-clause-serves g c =
       writes = subst (λ (bytes : List ℕ). Appends (g.W.Write.contents c.args.writer.now) (g.W.Write.contents c.write_frame.new.writer) (framed bytes)) c.deref-2.ensures.value
           c.in_ok-write_frame.ensures;
     }
+
+pub returns-in_err-request-clause-internal : goal.returns-in_err-request-clause-internal
+returns-in_err-request-clause-internal g c =
+    let none = reading_is_counted _ _ c.args.served.now _ c.in_err-request.ensures.fault in
+    search (rules, none)
+
+pub returns-in_err-answer_request-clause-internal : goal.returns-in_err-answer_request-clause-internal
+returns-in_err-answer_request-clause-internal g c =
+    let none = answering_is_counted c.args.served.now _ c.in_err-answer_request.ensures.unanswered in
+    search (rules, none)
+
+pub returns-in_err-write_frame-clause-internal : goal.returns-in_err-write_frame-clause-internal
+returns-in_err-write_frame-clause-internal g c =
+    let none = writing_is_counted c.args.served.now _ c.in_err-write_frame.ensures.0 in
+    search (rules, none)

@@ -1,4 +1,5 @@
-use Rattle.camp_talk.proofs.Words.{◌≡◌, ◌∙◌, length, rules, subst, take}
+use Rattle.camp_talk.proofs.Words.{◌≡◌, ◌∙◌, arith, length, rules, subst, take}
+use Rattle.camp_talk.proofs.LineCounts.{view_unanswered}
 use Rattle.camp_talk.proofs.ViewLemmas.{taken_back, view_answered}
 use Rattle.camp_talk.proofs.views.answer_view.Goals as goal
 
@@ -14,3 +15,7 @@ returns-in-Err-clause-kept c =
     let start : c.len-start.result ≡ length old = search rules in
     let held = c.in-Err.ensures.kept ∙ c.loop-why.invariant.writes in
     subst (λ n. c.truncate.new.self.items ≡ take n new) start c.truncate.ensures.items ∙ taken_back old _ new held
+
+pub returns-in-Err-clause-unanswered : goal.returns-in-Err-clause-unanswered
+returns-in-Err-clause-unanswered c =
+    view_unanswered c.args.state.now c.args.request.now _ _ c.args.answer.now.items _ _ _ (omega arith) c.loop-why.invariant c.in-Err.ensures.unseen
