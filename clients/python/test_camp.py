@@ -202,7 +202,7 @@ class Errors(unittest.TestCase):
         forms = ((camp.answers.read_changes, b"edit f 1\n+a\n-b\nend\n"), (camp.answers.read_changes, b"edit f 1\n+a\n"),
                  (camp.answers.read_changes, b"what\n"), (camp.answers.read_conflicts, b"a\n"), (camp.answers.read_history, b"1 2\n"),
                  (camp.answers.read_annotated, b"a b\n"), (camp.answers.read_marks, b"conflict 1 1\n=a\n"), (camp.answers.read_marks, b"what\n"),
-                 (lambda answer: camp.answers.read_tree(answer, 1), b"file f x\n"), (camp.answers.read_outcome, b"ok 1\nconflicts 1\n"))
+                 (lambda answer: camp.answers.read_tree(answer, 1), b"file f x\n"), (lambda answer: camp.answers.read_outcome(1, answer), b"conflicts 1\n"))
         for read, lines in forms:
             with self.subTest(lines=lines):
                 self.assertRaises(camp.Unexpected, read, camp.answers.Answer(lines))

@@ -22,7 +22,7 @@ from tests.harness.clients import built_library
 from tests.harness.folders import temporary
 from tests.harness.paths import TOP
 
-SECONDS, GATE = 90, "never"
+SECONDS, GATE = 90, "after camp_c"
 # How many members run at once, how many are killed, and between which seconds.
 MEMBERS, KILLS, LIFE = 4, 12, (0.3, 1.2)
 # The leader of etcd is paused for so many seconds.

@@ -1,4 +1,4 @@
-"""The program: a command server runs the command where there is one, else this process does, which then imports what it needs."""
+"""The program. A command server runs the command if there is one; otherwise this process does, and imports what it needs only then."""
 
 from __future__ import annotations
 
@@ -13,7 +13,7 @@ from typing import List, Optional
 
 from .client import ask_server
 
-# Seconds of processor time from which on a command that has loaded a repository leaves a server behind.
+# A command that has loaded a repository and took this many seconds of processor time starts a server.
 SLOW = 0.6
 
 

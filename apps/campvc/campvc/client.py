@@ -1,4 +1,4 @@
-"""Asks the command server of a working copy, where there is one: see `server`. This module is imported first, so it imports little."""
+"""Hands a command to the command server of a working copy, if there is one: see `server`. It is imported first, so it imports little."""
 
 from __future__ import annotations
 
@@ -8,7 +8,7 @@ import signal
 import sys
 from typing import Any, List
 
-# Commands that a server does not run: they begin with another repository, or do not end.
+# Commands that a server does not run: they are about another repository, or run until Ctrl-C.
 OTHERS = ("init", "clone", "web")
 
 
@@ -17,7 +17,7 @@ def is_off() -> bool:
 
 
 def find_socket() -> str | None:
-    """The socket of the working copy in which this process stands."""
+    """Returns the path of the server's socket, if the current folder is in a working copy with a server."""
     folder = os.getcwd()
     while not os.path.isdir(os.path.join(folder, ".camp")):
         if folder == os.path.dirname(folder):
@@ -28,13 +28,13 @@ def find_socket() -> str | None:
 
 
 def identity() -> List[Any]:
-    """What says that two processes run the same program: a change of a file changes the time of its folder."""
+    """Identifies the program: processes with equal values run the same one. A file that is replaced changes the time of its folder."""
     own = os.path.dirname(os.path.abspath(__file__))
     return [sys.version, own, os.stat(own).st_mtime_ns, os.environ.get("CAMP_LIB_DIR", "")]
 
 
 def ask_server(words: List[str]) -> int | None:
-    """The exit status of a command that a server has run; None where none does."""
+    """Has the server run a command and returns its exit status; None if no server runs it."""
     try:
         path = None if is_off() or words[:1] in [[it] for it in OTHERS] else find_socket()
     except OSError:
@@ -57,8 +57,11 @@ def ask_server(words: List[str]) -> int | None:
 
 
 def follow(child: int, answers: Any) -> int:
-    """Hands signals on to a child until it says its exit status."""
+    """Forwards signals to the child that runs the command, and returns its exit status."""
+    sent: List[int] = []
+
     def hand_on(number: int, _: Any) -> None:
+        sent.append(number)
         with contextlib.suppress(OSError):
             os.kill(child, number)
 
@@ -67,4 +70,4 @@ def follow(child: int, answers: Any) -> int:
     status = answers.readline()
     if not status:
         print("campvc: the command was ended: `campvc status` shows where you are", file=sys.stderr)
-    return int(status or 137)
+    return int(status or 128 + (sent or [signal.SIGKILL])[-1])

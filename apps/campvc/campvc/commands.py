@@ -8,9 +8,9 @@ import os
 import shutil
 from typing import Collection, List, Optional
 
-from camp import Change, NoBranch, sides
+from camp import Change, NoBranch, Outcome, sides
 from camp.changes import command, record_command
-from camp.coding import decode, encode_path, file_changes, file_name
+from camp.coding import Files, decode, encode_path, file_changes, file_name, places
 from camp.diffs import in_patches
 from camp.notes import Note, patch_name, slug
 from camp.worktree import changed, text
@@ -66,14 +66,14 @@ def clone(words: Words) -> int:
 
 
 def clone_address(folder: str) -> str:
-    """The log of the working copy in a folder."""
+    """Returns the address of the log of the working copy in a folder."""
     if not os.path.isdir(os.path.join(folder, ".camp")):
         raise Failure("{} is no address of a log (sqlite:PATH, etcd:HOST:PORT/PREFIX) and no campvc repository".format(folder), 128)
     return State(os.fsencode(os.path.abspath(folder))).get("log")
 
 
 def absolute(address: str) -> str:
-    """An address of which a path is absolute."""
+    """Returns an address whose path, if it has one, is absolute."""
     kind, _, path = (address or "").partition(":")
     return "sqlite:" + os.path.abspath(path) if kind == "sqlite" and path else address
 
@@ -103,7 +103,7 @@ def status(words: Words) -> int:
 
 
 def chosen(copy: Copy, paths: List[str], found: List[bytes], known: Collection[bytes]) -> List[bytes]:
-    """Those of some files that stand at or below some paths, or all; a path has to be one of what is known."""
+    """Selects the files at or below some paths, or all if there are none. A path that names no known file is a `Failure`."""
     if not paths:
         return found
     some: List[bytes] = []
@@ -146,7 +146,7 @@ def record(words: Words) -> int:
         before = set(copy.repository.open(copy.own))
         record_changes(copy, in_patches(changes), new_note(message, copy.state.get("author")), paths)
         remember_marked(copy, [path for path in marked if path not in paths])
-        for pair in sorted(before - set(copy.repository.open(copy.own))):
+        for pair in sorted(before - set(copy.repository.open(copy.own) if before else [])):
             emit("resolves the conflict of {} and {}".format(*pair))
     return 0
 
@@ -174,8 +174,12 @@ def show_command(words: Words) -> int:
         name = copy.name_of(words.patch)
         state = show.states_of(copy, copy.own).get(name, "")
         show.print_patch(copy, name, state)
-        for title, names in (("needs", copy.repository.needs(copy.own, [name])), ("holds", copy.repository.held(copy.own, [name]))):
-            emit("{:7} {}".format(title, ", ".join(it for it in names if it != name) or "no other patch"))
+        count = len(copy.repository.names(copy.own))
+        if count <= show.MOST_WITH_GRAPH or words.needs:
+            show.print_others("needs", copy.repository.needs(copy.own, [name]), name)
+            show.print_others("holds", copy.repository.held(copy.own, [name]), name)
+        else:
+            emit("`campvc show --needs` looks up what it needs and holds: among {} patches that may take minutes".format(count))
         emit("\nits side, as changes of what is there now:" if state else "")
         show.print_changes(copy.repository.side(copy.own, name) if state else copy.repository.show(copy.own, name).changes)
     return 0
@@ -230,7 +234,7 @@ def switch(words: Words) -> int:
 
 
 def take(copy: Copy, branch: str, names: List[str], yes: bool, publish: bool = True) -> int:
-    """Pulls patches into this copy, with all that they need; says which, and what is in conflict then."""
+    """Pulls patches and all that they need into this copy; prints them, and the conflicts that this makes."""
     listed = copy.along(branch, copy.own, names)
     more = [name for name in listed if name not in names]
     emit("from {}:".format(branch))
@@ -239,15 +243,26 @@ def take(copy: Copy, branch: str, names: List[str], yes: bool, publish: bool = T
         raise Failure("nothing is pulled")
     before = copy.unresolved()
     outcome = copy.repository.whatif.pull(branch, copy.own, listed)
-    copy.bring([(command("pull", branch, copy.own, *listed), b"")], decode(outcome.tree))
+    copy.bring([(command("pull", branch, copy.own, *listed), b"")], files_after(copy, branch, listed, outcome))
     if publish:
         copy.publish(listed)
-    new = [(path, pair) for path, pairs in copy.unresolved().items() for pair in pairs if pair not in before.get(path, [])]
+    after = copy.unresolved() if outcome.opened else {}
+    new = [(path, pair) for path, pairs in after.items() for pair in pairs if pair not in before.get(path, [])]
     for path, pair in new:
         emit("conflict in {}: {} and {}".format(text(path), *pair), show.RED)
     if new:
         emit("neither side of a conflict has an effect until it is decided: `campvc resolve` shows the sides in the files")
     return 1 if new else 0
+
+
+def files_after(copy: Copy, branch: str, names: List[str], outcome: Outcome) -> Files:
+    """Returns the files after a pull. Patches that are in conflict on neither side change the files that they name, and no others."""
+    pairs = [*outcome.conflicts, *outcome.opened, *outcome.resolved, *copy.repository.conflicts(branch)]
+    if any(name in pair for pair in pairs for name in names):
+        return decode(outcome.tree)
+    paths = {file_name(change.path) for name in names for change in copy.repository.show(branch, name).changes}
+    others = {path: file for path, file in copy.state.base().items() if path not in paths}
+    return {**others, **decode({it: outcome.tree[it] for path in paths for it in places(path) if it in outcome.tree})}
 
 
 def pull(words: Words) -> int:
@@ -287,7 +302,7 @@ def unrecord(words: Words) -> int:
 
 
 def take_out(words: Words, patches: List[str], keeps_files: bool) -> int:
-    """Takes patches out of the branch, with all that needs them; the files lose their changes, or keep them as not recorded."""
+    """Removes patches and all that needs them from the branch; the files lose their changes, or keep them as unrecorded ones."""
     with writing() as copy:
         if not keeps_files:
             copy.check_clean("obliterate")

@@ -1,4 +1,4 @@
-"""Conflicts in the working tree: marks with the sides' names, or what is taken of one side."""
+"""Conflicts in the working tree: files with marks that name the sides, or with the lines of one side."""
 
 from __future__ import annotations
 
@@ -18,7 +18,7 @@ START, SIDE, END = b"<<<<<<< ", b"======= ", b">>>>>>> "
 
 
 def marked(copy: Copy, hunks: sides.Hunks) -> List[bytes]:
-    """The lines of a file with marks: what stands there now, and each side with its name, author and title."""
+    """Returns the lines of a file with marks: those that are there now, and those of each side with its name, author and title."""
     lines: List[bytes] = []
     for hunk in hunks:
         if isinstance(hunk, bytes):
@@ -33,7 +33,7 @@ def marked(copy: Copy, hunks: sides.Hunks) -> List[bytes]:
 
 
 def check_marks(path: bytes, content: bytes) -> None:
-    """A `Failure` where a file still has marks."""
+    """Raises a `Failure` if a file still has marks."""
     for number, line in enumerate(content.split(b"\n"), 1):
         if line.startswith((START, SIDE, END)):
             raise Failure("{} still has marks of a conflict, at line {}: decide, take the marks out, and record again".format(
@@ -41,7 +41,7 @@ def check_marks(path: bytes, content: bytes) -> None:
 
 
 def marked_files(copy: Copy) -> List[bytes]:
-    """The files into which `resolve` wrote."""
+    """Returns the files that `resolve` wrote to, and that are not recorded since."""
     return [bytes.fromhex(it) for it in copy.state.get("marked").split()]
 
 
@@ -87,7 +87,7 @@ def resolve(words: argparse.Namespace) -> int:
 
 
 def write_marks(copy: Copy, path: bytes, found: sides.Unresolved, files: Files) -> None:
-    """Puts the sides of a file in conflict into it."""
+    """Puts the sides of a conflict into its file, with marks."""
     place, shown = encode_path(path), text(path)
     if place not in found:
         emit("{}: the sides differ in its mode or its end: make it as it is to be, and record".format(shown))

@@ -2,7 +2,7 @@
 
 A copy named `anna` that works on `main` has the branch `main--anna`, which nobody else writes. So a record is made on just the
 tree that the copy has seen, whatever others do meanwhile. Then it is published: pulled into `main`. `sync` pulls from
-`main` what others published. Where the log is away, calls are executed here and wait; they are asked again when it is back."""
+`main` what others published. While the log can't be reached, calls are executed here and queued; they are sent when it is back."""
 
 from __future__ import annotations
 
@@ -25,18 +25,18 @@ from camp.shared import NOT_TAKEN, Stopped
 from . import Failure, show
 from .state import State, locked
 
-# What a repository on a new log holds at most: changes in a branch, and branches, of which each copy has one.
+# The limits of a repository on a new log: changes in a branch, and branches, of which each copy has one.
 CATCHES, BRANCHES = 1_000_000, 16_384
-# Refusals of a call that waited which say that it was done already: the branch or the patch is there, or is gone.
+# Refusals of a queued call that mean that it was executed already: the branch or the patch is there, or is gone.
 DONE_ALREADY = ("5", "6", "7", "8")
-# What a command is doing, as `recover` of the next one finds it.
+# The values of the setting `doing`: what a command is at, so that the next one can finish it.
 UPDATE, RECORD, NOTHING = "update", "record", "nothing"
-# Repositories that are loaded, for the next object with their path.
+# Loaded repositories by their paths, for the next `Copy` of this process.
 LOADED: Dict[str, Loaded] = {}
 
 
 def find_top() -> bytes:
-    """The folder of the working copy in which this process stands."""
+    """Returns the folder of the working copy that the current folder is in."""
     folder = os.getcwdb()
     while not os.path.isdir(os.path.join(folder, b".camp")):
         if folder == os.path.dirname(folder):
@@ -47,7 +47,7 @@ def find_top() -> bytes:
 
 @contextlib.contextmanager
 def uninterrupted() -> Iterator[None]:
-    """Ctrl-C waits until this is done, whichever thread gets it."""
+    """Delays Ctrl-C until the block ends, whichever thread gets it."""
     asked: List[int] = []
     before = signal.signal(signal.SIGINT, lambda number, _: asked.append(number))
     try:
@@ -59,7 +59,7 @@ def uninterrupted() -> Iterator[None]:
 
 
 class Copy(Offline):
-    """A working copy: its repository, which goes on where the log is away, and its folder."""
+    """A working copy: its folder, and its repository, which can be used without the log."""
 
     def __init__(self, top: bytes) -> None:
         self.top, self.state, self.warnings = top, State(top), []  # type: bytes, State, List[str]
@@ -97,7 +97,7 @@ class Copy(Offline):
         return "{}--{}".format(branch, self.name)
 
     def synchronise(self) -> None:
-        """Asks the log for what is new and for all that waits, and says what is refused for good."""
+        """Reads what is new in the log and sends it the queued calls; adds a warning for each that it refuses."""
         for call, answer in self.connect(lambda: connection(self.address, bool(self.state.get("doing")))):
             self.state.set("doing", UPDATE)
             if answer.split()[1].decode() not in DONE_ALREADY:
@@ -105,22 +105,22 @@ class Copy(Offline):
                 self.warnings.append("the log refuses what waited for it, `{}`: {}".format(first, error_in(answer)))
 
     def ask(self, *words: str) -> None:
-        """Asks one call of one line; a refusal is raised."""
+        """Executes a call of one line; raises its refusal."""
         self.ask_all([(command(*words), b"")])
 
     def ask_all(self, calls: Calls) -> None:
-        """Asks calls; the first refusal is raised."""
+        """Executes calls; raises the first refusal."""
         for answer in self.write(calls):
             if not answer.startswith(b"ok"):
                 raise error_in(answer)
 
     def along(self, origin: str, to: str, names: Sequence[str]) -> List[str]:
-        """What a pull of these patches lists. The library is asked only where something else is missing, too."""
+        """Returns the patches that a pull of these has to list. Only if others are missing too the library is asked."""
         missing = self.repository.missing(origin, to)
         return missing if set(missing) <= set(names) else self.repository.along(origin, to, names)
 
     def publish(self, names: Sequence[str]) -> None:
-        """Pulls patches of the own branch into the one that all share. Where that is refused they stay here."""
+        """Pulls patches of the own branch into the shared one. If that is refused, they stay here and a warning says so."""
         listed = self.along(self.own, self.branch, names) if names else []
         if listed:
             (answer,) = self.write([(command("pull", self.own, self.branch, *listed), b"")])
@@ -129,19 +129,19 @@ class Copy(Offline):
                 self.warnings.append(problem.format(self.branch, ", ".join(names), error_in(answer)))
 
     def own_files(self) -> Files:
-        """The files of the own branch; none where it is not made yet."""
+        """Returns the files of the own branch; none if it is not made yet."""
         try:
             return decode(self.shared.tree(self.own))
         except NoBranch:
             return {}
 
     def own_tree(self, paths: Sequence[bytes]) -> Dict[str, List[bytes]]:
-        """What the own branch has of some files, as a tree of camp."""
+        """Returns some files of the own branch, as a tree of camp."""
         found = {place: self.shared.file(self.own, place) for path in paths for place in places(path)}
         return {place: lines for place, lines in found.items() if lines is not None}
 
     def recover(self) -> None:
-        """Ends what an interrupted command began: makes the own branch, and brings the working tree to it."""
+        """Finishes an interrupted command: makes the own branch, and brings the working tree to its files."""
         if self.own not in self.repository.branches():
             self.ask("branch", self.own, self.branch)
         elif not self.state.get("doing"):
@@ -160,11 +160,11 @@ class Copy(Offline):
             self.state.update(own, doing=NOTHING)
 
     def is_interrupted(self) -> bool:
-        """Whether a command was interrupted, and left the working tree behind the own branch."""
+        """True if an interrupted command left the working tree at older files than the own branch."""
         return self.state.get("doing") != NOTHING and self.state.base() != self.own_files()
 
     def scan(self) -> Files:
-        """The files as they are in the working tree."""
+        """Reads the files of the working tree."""
         base, stamps = self.state.base(), Stamps(os.path.join(os.fsdecode(self.top), ".camp", "files.db"))
         digests = {path: digest(file.mode.encode(), file.content) for path, file in base.items()}
         unchanged = stamps.read(digests)
@@ -175,7 +175,7 @@ class Copy(Offline):
         return found
 
     def check_clean(self, what: str) -> None:
-        """A `Failure` with the names of files that were changed and not recorded."""
+        """Raises a `Failure` that names the files with changes that are not recorded."""
         dirty = worktree.changed(self.state.base(), self.scan())
         if dirty:
             names = "".join("\n    {}".format(worktree.text(path)) for path in dirty[:10]) + "\n    .." * (len(dirty) > 10)
@@ -183,8 +183,8 @@ class Copy(Offline):
                           "and try again:{}".format(what, names))
 
     def bring(self, calls: Calls, files: Files, branch: str = "") -> None:
-        """Asks calls that lead to these files in the own branch, of the branch to work on from now on if one is named, and brings the
-        working tree there. Whatever fails before the calls are accepted leaves it as it was."""
+        """Executes calls after which the own branch has these files, and brings the working tree to them; with a name, that branch is
+        the one to work on from now on. A failure before the calls are accepted leaves the working tree as it was."""
         update = worktree.Update(self.top, self.state.base(), files)
         with uninterrupted():
             self.state.set("doing", UPDATE)
@@ -192,13 +192,13 @@ class Copy(Offline):
             self.ask_all(calls)
             self.state.set("branch", branch or self.branch)
             if self.shared.accepted != expected:
-                # Calls of others came between: they may have changed what these lead to.
+                # Calls of others came in between, so the files may be others.
                 update = worktree.Update(self.top, self.state.base(), self.own_files())
             update.install()
             self.state.update(update.after, doing=NOTHING)
 
     def record(self, calls: Calls, paths: Sequence[bytes] | None = None) -> None:
-        """Asks calls that change these files of the own branch, or any, and leaves the working tree as it is."""
+        """Executes calls that change these files of the own branch, or any if None, and leaves the working tree as it is."""
         with uninterrupted():
             self.state.set("doing", RECORD)
             self.ask_all(calls)
@@ -212,28 +212,30 @@ class Copy(Offline):
         return read_note(self.repository.notes.get(name, b""))
 
     def name_of(self, word: str, branch: str = "") -> str:
-        """The patch that a word names: its name, or the beginning of one alone."""
+        """Returns the patch that a word names: by its name, or by the beginning of just one name."""
         names = self.repository.names(branch or self.own)
         found = [word] if word in names else [name for name in names if name.startswith(word)]
         if len(found) != 1:
-            several = "several patches begin with {}: {}".format(word, ", ".join(found[:5]))
-            raise Failure(several if found else "there is no patch {} here: `campvc log` lists them".format(word))
+            several = "several patches begin with {}: {}: write more of its name".format(word, ", ".join(found[:5]))
+            where, more = ("in " + branch, " " + branch) if branch else ("here", "")
+            none = "there is no patch {} {}: `campvc log{}` lists them".format(word, where, more)
+            raise Failure(several if found else none)
         return found[0]
 
     def unresolved(self) -> Dict[bytes, List[Conflict]]:
-        """The unresolved conflicts of the own branch, by the files that they are about."""
+        """Returns the unresolved conflicts of the own branch, by their files."""
         return sides.by_file(sides.unresolved(self.repository, self.own))
 
 
 def error_in(answer: bytes) -> Exception:
-    """The error that an answer says."""
+    """Returns the error that a response stands for."""
     if answer in (NOT_TAKEN, b"stopped\n"):
         return Failure("the log takes nothing more: its disk is full, or the patch is too large; nothing has changed", 128)
     return error_of(answer.decode("ascii", "replace").split())
 
 
 def connection(address: str, is_known: bool) -> Log:
-    """The engine at an address, or what says that it is not there."""
+    """Opens the log at an address; raises `Away` if it can't be reached."""
     kind, _, path = address.partition(":")
     if kind == "sqlite" and is_known and not os.path.exists(path):
         raise Away("there is no file {}".format(path))
@@ -247,7 +249,7 @@ def connection(address: str, is_known: bool) -> Log:
 
 @contextlib.contextmanager
 def named_troubles(address: str) -> Iterator[None]:
-    """What is wrong with a log, in words that say what to do."""
+    """Turns what is wrong with a log into a `Failure` that says what to do."""
     try:
         yield
     except Foreign as error:
@@ -259,7 +261,9 @@ def named_troubles(address: str) -> Iterator[None]:
 
 @contextlib.contextmanager
 def reading() -> Iterator[Copy]:
-    """The working copy as it is known, for commands that change nothing."""
+    """Opens the working copy with what was read of the log, for commands that change nothing: Ctrl-C ends them at once, also while the
+    library is at a question."""
+    signal.signal(signal.SIGINT, signal.SIG_DFL)
     with Copy(find_top()) as copy, named_troubles(copy.address):
         copy.open()
         if copy.own not in copy.repository.branches():
@@ -270,8 +274,8 @@ def reading() -> Iterator[Copy]:
 
 @contextlib.contextmanager
 def writing(address: str = "") -> Iterator[Copy]:
-    """The working copy, locked, with all that the log has if it is there; the log is at another address from now on, if one is given.
-    At the end its warnings are printed."""
+    """Opens the working copy, locked, with all that the log has if it can be reached; with an address the log is there from now on.
+    Prints the warnings at the end."""
     top = find_top()
     with locked(top), Copy(top) as copy:
         copy.address = address or copy.address
@@ -283,4 +287,4 @@ def writing(address: str = "") -> Iterator[Copy]:
             copy.recover()
             yield copy
             copy.repository.keep(copy.own, copy.branch)
-        show.tell(copy)
+        show.print_warnings(copy)

@@ -1,4 +1,4 @@
-"""The commands that take patches in from git, and out again."""
+"""The commands that import commits of git, and export patches to it."""
 
 from __future__ import annotations
 

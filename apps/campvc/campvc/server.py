@@ -1,6 +1,6 @@
-"""A command server: a process that remains when a command had to load a large repository, and runs the next commands in this copy.
+"""A command server: a process that stays when a command had to load a large repository, and runs the next commands in this copy.
 
-Each runs in a child of the server, which has the repository loaded already, and reads what the log has beyond that. It does what it would do
+Each command runs in a child of the server, which has the repository loaded and first reads what is new in the log. It does what it would do
 in a process of its own, with the caller's folder, environment, files and terminal. The server listens at `.camp/server`, which its user alone
 can open. It ends after ten minutes without a command, and when its socket, the program or the library is another one. CAMPVC_SERVER=0 turns
 it off; with 1 each command that has loaded a repository leaves one behind, however small that is."""
@@ -24,17 +24,19 @@ from camp.offline import Loaded
 from . import command_line, copy
 from .client import identity
 
-# For how many seconds a server waits for a command, and between two looks at its socket.
+# Seconds without a command after which a server ends, and between two checks that its socket is still there.
 IDLE, LOOK = 600.0, 5.0
 SOCKET = "server"
 
 
 def start() -> None:
-    """Leaves a server behind for the repository that this process has loaded."""
+    """Starts a server with the repository that this process has loaded."""
     sys.stdout.flush()
     if os.fork() == 0:
         try:
             gc.collect()
+            # A child that collected the objects of the server would copy their pages.
+            gc.freeze()
             os.setsid()
             Server(*copy.LOADED.popitem()).serve()
         finally:
@@ -42,13 +44,13 @@ def start() -> None:
 
 
 def library_time() -> int:
-    """What changes when the file of the library does."""
+    """Returns the time of the library's file, which differs once that is replaced."""
     path = library_path()
     return os.stat(path).st_mtime_ns if os.path.exists(path) else 0
 
 
 class Server:
-    """The process that has the repository of a copy loaded. `path` is where the copy remembers its log."""
+    """The process that keeps the repository of a copy loaded. `path` is the file where the copy remembers its log."""
 
     def __init__(self, path: str, loaded: Loaded) -> None:
         self.path, self.loaded, self.identity, self.library = path, loaded, identity(), library_time()
@@ -62,7 +64,7 @@ class Server:
         signal.signal(signal.SIGCHLD, signal.SIG_IGN)
 
     def serve(self) -> None:
-        """Runs commands until nobody wants any."""
+        """Runs commands until it is of no use, or none came for ten minutes."""
         with socket.socket(socket.AF_UNIX) as listener:
             with contextlib.suppress(OSError):
                 os.remove(SOCKET)
@@ -87,7 +89,7 @@ class Server:
         return False
 
     def _answer(self, connection: socket.socket) -> bool:
-        """Runs a command in a child. False where this server is of no use any more."""
+        """Runs a command in a child. Returns False if this server is of no use any more."""
         connection.settimeout(2.0)
         with contextlib.suppress(OSError, ValueError, EOFError):
             length, files, _, _ = socket.recv_fds(connection, 9, 3)
@@ -102,14 +104,14 @@ class Server:
         return True
 
     def _is_up_to_date(self) -> bool:
-        """Reads what other commands have read of the log. False where that, or the library, is another one."""
+        """Reads what other commands have read of the log. Returns False if the log or the library is another one."""
         found = self.loaded.advance(self.path)
         self.loaded = found or self.loaded
         return found is not None and library_time() == self.library
 
 
 def run_child(connection: socket.socket, files: List[int], request: List[Any], path: str, loaded: Loaded) -> None:
-    """Runs a command with the files, the folder and the environment of the caller, and tells the caller its status."""
+    """Runs a command with the files, the folder and the environment of the caller, and sends its exit status."""
     status = 1
     try:
         for number, file in enumerate(files):

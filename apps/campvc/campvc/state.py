@@ -1,4 +1,4 @@
-"""What a working copy keeps beside its files, in `.camp/state.db`: the tree that its files were last brought to, and settings."""
+"""The state of a working copy, in `.camp/state.db`: settings, and the base, which is the tree that its files were last brought to."""
 
 from __future__ import annotations
 
@@ -10,7 +10,7 @@ import time
 from typing import Iterator
 
 from camp.coding import File, Files
-from camp.worktree import changed
+from camp.worktree import changed, text
 
 from . import Failure
 
@@ -27,7 +27,6 @@ class State:
     def __init__(self, top: bytes) -> None:
         self.path = os.path.join(top, b".camp", b"state.db")
         self.db = sqlite3.connect(os.fsdecode(self.path), timeout=PATIENCE, isolation_level="IMMEDIATE", check_same_thread=False)
-        self.db.execute("PRAGMA journal_mode = WAL")
         self.db.executescript(TABLES)
         self._base: Files | None = None
 
@@ -42,7 +41,7 @@ class State:
         self.update(**{key: value})
 
     def update(self, files: Files | None = None, **settings: str) -> None:
-        """Writes settings, and the files that the working tree was brought to; all of this or nothing."""
+        """Writes settings, and the base if files are given, in one transaction."""
         with self.db:
             self.db.executemany("INSERT OR REPLACE INTO settings VALUES (?, ?)", settings.items())
             base = {} if files is None else self.base()
@@ -54,7 +53,7 @@ class State:
         self._base = self._base if files is None else dict(files)
 
     def base(self) -> Files:
-        """The files that the working tree was last brought to."""
+        """Returns the files that the working tree was last brought to."""
         if self._base is None:
             self._base = {row[0]: File(row[1], row[2]) for row in self.db.execute("SELECT path, mode, content FROM base")}
         return self._base
@@ -62,8 +61,13 @@ class State:
 
 @contextlib.contextmanager
 def locked(top: bytes) -> Iterator[None]:
-    """One command at a time changes a working copy; another one waits for a while."""
-    with open(os.path.join(top, b".camp", b"lock"), "a+", encoding="ascii") as file:
+    """Lets one command at a time change a working copy; another one waits for it, CAMPVC_PATIENCE seconds or 10."""
+    folder = os.path.join(top, b".camp")
+    written = [folder, *(os.path.join(folder, name) for name in (b"lock", b"state.db", b"seen.db"))]
+    if any(os.path.exists(path) and not os.access(path, os.W_OK) for path in written):
+        raise Failure("{} can't be written: `chmod -R u+w` it, or work in a copy of your own, which `campvc clone` makes; nothing has changed"
+                      .format(text(folder)), 128)
+    with open(os.path.join(folder, b"lock"), "a+", encoding="ascii") as file:
         end = time.monotonic() + float(os.environ.get("CAMPVC_PATIENCE", PATIENCE))
         while True:
             try:

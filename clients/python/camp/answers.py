@@ -65,6 +65,10 @@ class Answer:
         self._lines, self._at = response.split(b"\n"), 0
         self._lines.pop()
 
+    def begin_again(self) -> None:
+        """Goes back to the first line."""
+        self._at = 0
+
     def next_line(self) -> bytes:
         return self._next_lines(1)[0]
 
@@ -201,10 +205,9 @@ def read_history(answer: Answer) -> List[AcceptedCall]:
     return calls
 
 
-def read_outcome(answer: Answer) -> Outcome:
-    """`ok NUMBER`, and parts that say how many lines they have; the last one is the tree. Parts of later versions are
-    passed over."""
-    accepted = answer.count("ok")
+def read_outcome(accepted: int, answer: Answer) -> Outcome:
+    """Reads what follows `ok NUMBER`: parts that say how many lines they have, the last one is the tree. Parts of later versions
+    are skipped."""
     parts: Dict[str, List[List[str]]] = {}
     words = answer.next_words()
     while words[0] != "tree":

@@ -198,6 +198,10 @@ class RememberedLog:
         found = self._base.execute("SELECT text FROM entries WHERE at = ?", (index,)).fetchone()
         return found[0] if found else b""
 
+    def forget(self, index: int) -> None:
+        """Removes the entries from an index on: they will be read again."""
+        self._base.execute("DELETE FROM entries WHERE at >= ?", (index,))
+
     def _check(self) -> None:
         """`Foreign` where the engine does not have what was read last."""
         last = self._end - 1
