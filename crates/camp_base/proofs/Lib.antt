@@ -1,4 +1,0 @@
-mod LineLemmas
-mod NameLemmas
-mod TreeLemmas
-pub mod Words

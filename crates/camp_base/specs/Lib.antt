@@ -1,7 +1,0 @@
-pub mod Answers
-pub mod Bytes
-pub mod Inside
-pub mod Limits
-pub mod Made
-pub mod Signs
-pub mod Trees

@@ -1,2 +1,0 @@
--- Definitions that only the model of changes uses.
-pub mod ChangesFields

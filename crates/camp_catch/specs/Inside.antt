@@ -1,5 +1,0 @@
--- Definitions that only private functions use.
-pub mod InPlace
-pub mod Meetings
-pub mod Seen
-pub mod TwoConflictors

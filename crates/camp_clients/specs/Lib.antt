@@ -1,9 +1,0 @@
-pub mod Answers
-pub mod Clients
-pub mod Comparing
-pub mod Gathering
-pub mod Laws
-pub mod Synchronising
-pub mod Positions
-pub mod Runs
-pub mod Sections

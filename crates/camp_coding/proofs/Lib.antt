@@ -1,5 +1,0 @@
-pub mod AttributeLemmas
-pub mod ContentLemmas
-pub mod EscapeLemmas
-pub mod GitTreeLemmas
-pub mod PlaceLemmas

@@ -1,3 +1,0 @@
--- Definitions that only private functions use.
-pub mod Placing
-pub mod Splitting

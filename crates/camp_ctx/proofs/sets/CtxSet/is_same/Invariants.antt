@@ -1,6 +1,0 @@
-use Rattle.camp_ctx.proofs.Words.{◌≡◌, ℕ, ◌<◌, slice_get}
-use Rattle.camp_ctx.proofs.SetSteps.{members_of}
-use Rattle.camp_ctx.proofs.sets.CtxSet.is_same.Given as goal
-
-abbrev pub invariant-loop-index : goal.invariant-loop-index
-invariant-loop-index l = (k : ℕ) → k < l.index → slice_get (members_of l.self) k ≡ slice_get (members_of l.other) k

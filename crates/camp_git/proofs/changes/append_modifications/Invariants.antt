@@ -1,6 +1,0 @@
-use Rattle.camp_git.proofs.Growing.{GoesOn}
-use Rattle.camp_git.specs.Inside.Commits.{modification_of, paths_in}
-use Rattle.camp_git.proofs.changes.append_modifications.Given as goal
-
-abbrev pub invariant-loop-entry : goal.invariant-loop-entry
-invariant-loop-entry l = GoesOn (modification_of l.new) (paths_in l.paths) l.initial.text.items l.text.items l.entry-iterator

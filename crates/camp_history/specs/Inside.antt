@@ -1,4 +1,0 @@
-pub mod HeadFields
-pub mod StoredCallFields
-pub mod SeatFields
-pub mod Steps

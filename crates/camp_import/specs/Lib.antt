@@ -1,4 +1,0 @@
-pub mod CommitTrees
-pub mod Inside
-pub mod Parts
-pub mod TreeChanges

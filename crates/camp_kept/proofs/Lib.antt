@@ -1,9 +1,0 @@
-pub mod Committing
-mod Listing
-mod Numbering
-mod Opening
-pub mod Prefixes
-mod ReplayLemmas
-mod Refusing
-mod Reopening
-mod TitleLemmas

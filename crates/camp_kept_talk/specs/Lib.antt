@@ -1,5 +1,0 @@
-pub mod Buffering
-pub mod Laws
-pub mod Promises
-pub mod Serving
-pub mod Stopping

@@ -1,5 +1,0 @@
-pub mod Counting
-pub mod Deciding
-pub mod Reading
-pub mod Telling
-pub mod Settling

@@ -1,4 +1,0 @@
-pub mod Asks
-pub mod Beginnings
-pub mod Replays
-pub mod SameBooks

@@ -1,3 +1,0 @@
-pub mod Common
-pub mod Found
-pub mod Program

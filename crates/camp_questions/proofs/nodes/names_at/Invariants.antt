@@ -1,5 +1,0 @@
-use Rattle.camp_questions.proofs.Words.{◌≡◌, map, take, name_at}
-use Rattle.camp_questions.proofs.nodes.names_at.Given as goal
-
-abbrev pub invariant-loop-place : goal.invariant-loop-place
-invariant-loop-place l = l.chosen.items ≡ map (name_at l.names) (take l.place-index l.places)

@@ -1,5 +1,0 @@
-use Rattle.camp_questions.proofs.Words.{◌≡◌, filter, needs_place, up_to}
-use Rattle.camp_questions.proofs.nodes.needed_places.Given as goal
-
-abbrev pub invariant-loop-place : goal.invariant-loop-place
-invariant-loop-place l = l.places.items ≡ filter (needs_place l.marks l.at) (up_to l.place)

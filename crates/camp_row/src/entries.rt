@@ -1,9 +1,0 @@
-//! Published cells.
-/// A published cell as readers see it.
-#[derive(Clone, Copy, PartialEq, Eq, Debug)]
-pub struct Entry {
-    /// The seat that published it.
-    pub seat: u32,
-    /// The number that the seat gave it.
-    pub index: usize,
-}

@@ -1,5 +1,0 @@
-mod Words
-pub mod StoredTexts
-pub mod Serial
-pub mod Texts
-pub mod Written

@@ -1,7 +1,0 @@
-use Rattle.camp_script.proofs.Common.{◌≡◌, ◌++◌, take, flat_map, AllByRecursion, change_text, IsChange}
-use Rattle.camp_script.proofs.writing.append_changes.Given as goal
-
-abbrev pub invariant-loop-change : goal.invariant-loop-change
-invariant-loop-change l =
-    (l.text.items ≡ l.initial.text.items ++ flat_map change_text (take l.change-index l.changes))
-    × AllByRecursion IsChange (take l.change-index l.changes)

@@ -1,8 +1,0 @@
-use Rattle.camp_seq.proofs.FirstOrders.{own_with_room}
-use Rattle.camp_seq.proofs.orders.order.Goals as goal
-
-pub returns : goal.returns
-returns c = record {
-  order = c.order_anew.ensures;
-  own = λ yes. own_with_room c.args.items.now c.order_anew.new.items (c.surely_has_room.ensures.room yes) c.order_anew.ensures;
-}

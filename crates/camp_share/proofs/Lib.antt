@@ -1,7 +1,0 @@
-pub mod Entries
-mod Found
-mod Lookups
-mod MapLemmas
-mod Parted
-mod PartLemmas
-pub mod Words

@@ -1,9 +1,0 @@
-use Rattle.camp_share.proofs.Words.{[], ◌∷◌, ◌∙◌, IfOk-weaker}
-use Rattle.camp_share.proofs.PartLemmas.{spliced_copies}
-use Rattle.camp_share.proofs.pieces.OnePart.with_one.Goals as goal
-
-pub returns : goal.returns
-returns g c =
-    IfOk-weaker c.of.result _ _
-    (λ last is. is ∙ spliced_copies c.args.self.now c.items-old.result.now _ _ _ (c.args.item ∷ []) c.args.from c.args.to c.items-old.ensures c.in_ok-items.ensures c.in_ok-push.ensures.items c.in_ok-append_copies.ensures.joined)
-    c.of.ensures

@@ -1,4 +1,0 @@
-pub mod CommandLaws
-pub mod CommandLemmas
-pub mod ItemLemmas
-pub mod QuoteLemmas

@@ -1,4 +1,0 @@
-pub mod Backends
-pub mod Framings
-pub mod Groups
-pub mod Runs

@@ -1,8 +1,0 @@
--- The history of a repository.
-use Rattle.camp_call.specs.declared.calls.Call.{Call}
-use Rattle.camp_object.specs.Books.{Booked}
-use Rattle.camp_repo.specs.States.{Contents}
-
--- the state that a repository began with, and its accepted calls, each under the number of its seat
-abbrev pub Entries : Type 0
-Entries = Booked Contents Call

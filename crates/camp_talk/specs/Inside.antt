@@ -1,6 +1,0 @@
--- Definitions that only private functions use.
-pub mod Framing
-pub mod ExecutingNext
-pub mod Parts
-pub mod Responses
-pub mod Viewing

@@ -1,9 +1,0 @@
-pub mod Booked
-pub mod Emptied
-pub mod StoredBooks
-pub mod Once
-pub mod Questioned
-pub mod ReadBack
-pub mod Shared
-pub mod Turned
-pub mod Words
