@@ -21,7 +21,7 @@ not_open = pos 1
 abbrev pub already_open : ℤ
 already_open = pos 4
 
--- the code for a view in place of a repository, or a repository in place of a view
+-- the code for a handle of the other kind: a view where a repository is needed, or a repository where a view is
 abbrev pub wrong_kind : ℤ
 wrong_kind = pos 5
 
