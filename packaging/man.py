@@ -96,9 +96,15 @@ def language_page(markdown, version):
 
 
 def text_lines(block):
-    """A paragraph, or a list of items, each behind a bullet."""
-    lines = escaped(plain(block)).splitlines()
-    return "".join(f".IP \\(bu 2\n{it[3:]}\n" if it.startswith("\\- ") else f"{it}\n" for it in lines)
+    """A paragraph, or a list. An item that begins with code is a term and what is said of it, any other one has a bullet."""
+    out = []
+    for line in block.splitlines():
+        term = re.match(r"- (`[^`]*`(?:, `[^`]*`)*):? (.*)", line)
+        if term:
+            out.append(f".TP\n\\fB{escaped(plain(term[1]))}\\fR\n{escaped(plain(term[2]))}\n")
+        else:
+            out.append(f".IP \\(bu 2\n{escaped(plain(line[2:]))}\n" if line.startswith("- ") else f"{escaped(plain(line))}\n")
+    return "".join(out)
 
 
 def table(block):

@@ -1,4 +1,5 @@
-"""What a proof of all crates has made: the programs and the library in out/, with a digest of the text that was proved."""
+"""What a proof of all crates has made: the programs, the library and the libraries of the crates in out/, with a digest of the text
+that was proved."""
 
 import glob
 import hashlib
@@ -9,6 +10,11 @@ import subprocess
 from .layout import BUILT, PROGRAMS, TOP
 
 DIGEST = f"{BUILT}/proved"
+# The copy of the crates that `rt ci` has proved, with the library or the program in each crate's out/. It is one file: `rt ci` at the
+# top would refuse sources that stand elsewhere than in crates/.
+TREE = f"{BUILT}/tree.tar"
+# Of a crate's folder what `rt ci` reads.
+PARTS, FILES = ("src", "specs", "proofs", "data"), ("stdin", "stdout", "args", "status")
 # The files of the library, each with its folder below out/.
 LIBRARY = {"libcamp.a": "lib", "libcamp.so": "lib", "camp.h": "include"}
 
@@ -19,12 +25,13 @@ def copy(path, to):
 
 
 def digest():
-    """The SHA-256 of the kit's name and of all that the programs and the library are made from."""
+    """The SHA-256 of the kit's name, of all that `rt ci` reads, and of what the library is made from."""
     kit = subprocess.run(["rt", "version"], stdout=subprocess.PIPE, check=True).stdout
     found = hashlib.sha256(kit)
-    sources = [it for part in ("src", "specs", "proofs") for it in glob.glob(f"{TOP}/crates/*/{part}/**/*.*t*", recursive=True)]
-    others = [f"{TOP}/{it}" for it in ("crates.txt", "HANDLES", "clients/build", "clients/c/texts.c", "clients/c/include/camp.h")]
-    for path in sorted([*others, *sources]):
+    paths = [it for part in PARTS for it in glob.glob(f"{TOP}/crates/*/{part}/**", recursive=True)]
+    paths += [it for name in FILES for it in glob.glob(f"{TOP}/crates/*/{name}")]
+    paths += [f"{TOP}/{it}" for it in ("crates.txt", "HANDLES", "VERSION", "clients/build", "clients/c/texts.c", "clients/c/include/camp.h")]
+    for path in sorted(it for it in paths if os.path.isfile(it)):
         with open(path, "rb") as file:
             found.update(repr((os.path.relpath(path, TOP), file.read())).encode())
     return found.hexdigest()
@@ -39,6 +46,14 @@ def are_kept():
         return file.read() == digest() and all(os.path.isfile(f"{BUILT}/{it}") for it in files)
 
 
+def unpack_tree(folder):
+    """Makes a folder the proved copy of just this text. Returns whether there is one."""
+    is_there = are_kept() and os.path.isfile(TREE)
+    if is_there:
+        shutil.unpack_archive(TREE, folder)
+    return is_there
+
+
 def keep_programs(tree):
     """Copies the programs that `rt ci` has left in a tree to out/bin."""
     for name in PROGRAMS:
@@ -51,13 +66,21 @@ def keep_library(folder):
         copy(f"{folder}/{name}", f"{BUILT}/{to}/{name}")
 
 
-def note():
-    """Notes that all that stands in out/ was made from the text that stands here now."""
+def lend_library(folder):
+    """Copies the library to a folder, as clients/build leaves it."""
+    for name, to in LIBRARY.items():
+        copy(f"{BUILT}/{to}/{name}", f"{folder}/{name}")
+
+
+def keep_tree(tree, text):
+    """Keeps a tree that `rt ci` has proved, and notes that all in out/ was made from the text of this digest."""
+    shutil.make_archive(TREE[: -len(".tar")], "tar", tree)
     with open(DIGEST, "w", encoding="ascii") as file:
-        file.write(digest())
+        file.write(text)
 
 
 def forget():
     """Notes that what stands in out/ may be of another text."""
-    if os.path.exists(DIGEST):
-        os.remove(DIGEST)
+    for it in (DIGEST, TREE):
+        if os.path.exists(it):
+            os.remove(it)

@@ -17,7 +17,7 @@ from tests import registry
 from tests.harness import programs
 from tests.harness.crates import below, uses_of
 from tests.harness.folders import temporary
-from tests.harness.paths import TOP, read, write_text
+from tests.harness.paths import TOP, read, read_text, write_text
 
 # A test counts as hanging where it takes so many times the seconds that it says, and so many seconds at least, and then uses no
 # processor for a minute: beside proofs it gets little of one. After four times as long it is ended in any case.
@@ -88,7 +88,7 @@ class Progress:
         crates = {}
         for (name, _), seconds in self.proving.items():
             crates[name] = crates.get(name, 0) + seconds
-        rows = [f"| Part | Seconds |\n|---|---|\n| all, on {os.cpu_count()} processors | {time.time() - self.started:.0f} |"]
+        rows = [f"| Part | Seconds |\n|---|---|\n| all: {machine()} | {time.time() - self.started:.0f} |"]
         rows += [f"| {name} | {seconds:.0f} |" for name, seconds in sorted(self.seconds.items(), key=lambda it: -it[1])]
         rows += ["\n| Check | Processor seconds |\n|---|---|"]
         rows += [f"| {name} | {seconds:.0f} |" for name, seconds in sorted(crates.items(), key=lambda it: -it[1])]
@@ -166,15 +166,37 @@ def run_all():
     waiting = [(set(it.gate.split()[1:]) or set(uses), it, it.gate_words, 0, it.name) for it in after]
     progress = Progress(len(beside) + len(waiting) + 1)
     subprocess.run(["rt", "version"], check=True)
-    products.forget()
+    progress.tell(machine())
+    text = products.digest()
     shutil.rmtree(f"{TOP}/out/clients", ignore_errors=True)
-    with temporary("gate-") as folder, ThreadPoolExecutor(programs.JOBS) as others, ThreadPoolExecutor(programs.JOBS) as pool:
+    with temporary("gate-") as folder:
         os.environ["CAMP_TREE"] = progress.tree = f"{folder}/tree"
+        is_kept = not os.environ.get("CI") and products.unpack_tree(progress.tree)
         for crate in (it for it in uses if glob.glob(f"{TOP}/crates/{it}/must-fail/*.edit")):
             waiting.append((below(crate, uses), mutants, ["--over", progress.tree, crate], 10, f"{mutants.name} {crate}"))
             progress.left += 1
-        # `rt ci` would prove a crate once more for each mutant of must-fail/, so they are tried beside it, many in one check.
-        shutil.copytree(TOP, progress.tree, symlinks=True, ignore=shutil.ignore_patterns(".git", "out", "must-fail", "__pycache__"))
+        if is_kept:
+            lend_library(progress.tree)
+        else:
+            products.forget()
+            # `rt ci` would prove a crate once more for each mutant of must-fail/, so they are tried beside it, many in one check.
+            shutil.copytree(TOP, progress.tree, symlinks=True, ignore=shutil.ignore_patterns(".git", "out", "must-fail", "__pycache__"))
+        is_proved = run_around(progress, beside, waiting, uses, is_kept)
+        if is_proved and not is_kept:
+            keep_products(progress, text)
+    progress.write_times(f"{TOP}/out/gate-times.md")
+    return progress.finish()
+
+
+def machine():
+    """The machine in words. `rt ci` proves as many crates side by side as its estimate of their memory lets it."""
+    free = re.search(r"^MemAvailable: +(\d+)", read_text("/proc/meminfo"), re.M)
+    return f"{len(os.sched_getaffinity(0))} processors, {int(free[1]) / 1e6:.0f} GB of memory free, load {os.getloadavg()[0]:.1f}"
+
+
+def run_around(progress, beside, waiting, uses, is_kept):
+    """Runs tests beside the proofs, and others as soon as what they wait for is proved. Returns whether all crates are."""
+    with ThreadPoolExecutor(programs.JOBS) as others, ThreadPoolExecutor(programs.JOBS) as pool:
         for it in beside:
             others.submit(run_one, it, progress, it.gate_words, 10)
 
@@ -184,25 +206,35 @@ def run_all():
                 pool.submit(run_one, it[1], progress, *it[2:])
 
         start_ready()
-        is_proved = prove(progress, start_ready)
+        if is_kept:
+            progress.tell("rt ci: not run, since ./build or an earlier gate has proved this text; CI=1 .ci/run proves from nothing")
+            progress.left -= 1
+        is_proved = is_kept or prove(progress, start_ready)
         if is_proved:
             progress.proved.update(uses)
         start_ready()
         for *_, title in waiting:
             progress.failures.append((title, "not run, since a crate that it needs is not proved"))
-        pool.shutdown()
-        if is_proved:
-            keep_products(progress)
-    progress.write_times(f"{TOP}/out/gate-times.md")
-    return progress.finish()
+    return is_proved
 
 
-def keep_products(progress):
-    """Leaves the programs, and the library that a test has built, in out/, so that ./build need not prove the same text again."""
-    products.keep_programs(progress.tree)
-    if os.path.exists(f"{TOP}/out/clients/libcamp.so"):
-        products.keep_library(f"{TOP}/out/clients")
-        products.note()
+def lend_library(tree):
+    """Puts the library of a kept tree where tests would build it once more."""
+    products.lend_library(f"{TOP}/out/clients")
+    write_text(f"{TOP}/out/clients.lock", tree)
+
+
+def keep_products(progress, text):
+    """Leaves the programs, the library that a test has built, and the proved tree in out/, so that neither ./build nor the next gate
+    proves the same text again. Where the disk has no room for them, it says so, and the verdict is as ever."""
+    try:
+        products.keep_programs(progress.tree)
+        if os.path.exists(f"{TOP}/out/clients/libcamp.so"):
+            products.keep_library(f"{TOP}/out/clients")
+            products.keep_tree(progress.tree, text)
+    except OSError as error:
+        products.forget()
+        progress.tell(f"nothing is kept for ./build: {error}")
 
 
 def prove(progress, when_proved):

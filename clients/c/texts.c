@@ -30,7 +30,20 @@ const char *camp_code_text(int32_t code) {
     case CAMP_MEMORY: return "out of memory";
     case CAMP_LIMITS: return "a limit is out of range";
     case CAMP_ALREADY_OPEN: return "the handle to be opened is open already";
-    case CAMP_WRONG_KIND: return "a view in place of a repository, or a repository in place of a view";
+    case CAMP_WRONG_KIND: return "a handle of another kind: a view in place of a repository, say";
+    case CAMP_NO_TITLE: return "the first entry is no title of a log";
+    case CAMP_NO_CALL: return "the text is not one call in canonical form";
+    case CAMP_TOO_LONG: return "the call is too long for an entry";
+    case CAMP_FOREIGN: return "no entry of a member stands there, or one of another process with this seat";
+    case CAMP_OUT_OF_ORDER: return "another entry comes next";
+    case CAMP_NOTHING: return "there is nothing";
+    case CAMP_READ: return "the member wants to read its log";
+    case CAMP_APPEND: return "the member wants to append an entry";
+    case CAMP_REPLY: return "a reply";
+    case CAMP_REFUSED: return "no reply: the log refused the entry";
+    case CAMP_ENDED: return "no reply: the log ends too early";
+    case CAMP_STOPPED: return "no reply: the log can be read no further";
+    case CAMP_WAITS: return "a request waits";
     default: return "no code of this library";
     }
 }

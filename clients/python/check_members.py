@@ -2,8 +2,8 @@
 
     python3 check_members.py sqlite:PATH | etcd:HOST:PORT[,HOST:PORT ..]/PREFIX | postgres:DSN [--members N] [--calls N] [--wrong NAME]
 
-The library is found as `import camp` finds it. A fifth of the appends lose their answer: half of these took place. Each member is
-a thread with a session of its own. `--wrong` plants a member that is wrong in one way (`WRONG`), which the check has to
+The library is found as `import camp` finds it. A fifth of the appends get no answer: of these a quarter never come, a quarter come, a
+quarter come late, mostly after the retry, and a quarter come twice. A twentieth of the reads get none either. Each member is a thread with a session of its own. `--wrong` plants a member that is wrong in one way (`WRONG`), which the check has to
 find. The exit status is 0 where the replies are as promised, or where what was planted is found."""
 
 import argparse
@@ -14,35 +14,70 @@ import threading
 import time
 
 from camp import Repository
-from camp.logs import AppendOutcome, open_log
+from camp.logs import AppendOutcome, Away, open_log
 from camp.shared import CALLS, NOT_READ, NOT_TAKEN, Member, Stopped, calls_of, turn, what_if
+from member_model import ModelMember
 
 NO_REPLY = (b"stopped\n", NOT_READ, NOT_TAKEN)
+# What comes late comes within so many seconds.
+LATE = 0.5
 Asked = collections.namedtuple("Asked", "seat turn call at_least asked")
 Answered = collections.namedtuple("Answered", "request answer place answered")
 
 
 class Lossy:
-    """A log whose appends lose some answers."""
+    """A log that is told a fifth of the appends without an answer: some never come, some come, some come late, and some come twice,
+    as in an engine that does not know their tags. Some reads get no answer."""
 
-    def __init__(self, log, chance: random.Random, rate: float = 0.2):
-        self.log, self.chance, self.rate = log, chance, rate
-        self.read, self.length, self.close = log.read, log.length, log.close
-        self.lost = 0
+    def __init__(self, log, chance: random.Random, rate: float = 0.2, unread_rate: float = 0.05):
+        self.log, self.chance, self.rate, self.unread_rate = log, chance, rate, unread_rate
+        self.length = log.length
+        self.lost, self.late, self.doubled, self.unread = 0, 0, 0, 0
+        # How often a log is read is a matter of time: which appends are lost does not depend on it.
+        self.chance_of_reads = random.Random(1)
+        # What comes late: when, its tag and its text.
+        self.held = []
 
     def append(self, tag, text):
-        fate = self.chance.random()
-        if fate < self.rate / 2:
-            self.lost += 1
-            return AppendOutcome.UNKNOWN
-        outcome = self.log.append(tag, text)
-        if fate < self.rate:
-            self.lost += 1
-            return AppendOutcome.UNKNOWN
-        return outcome
+        self.deliver(time.monotonic())
+        fate = self.chance.random() / self.rate
+        if fate >= 1:
+            return self.log.append(tag, text)
+        self.lost += 1
+        if 0.25 <= fate < 0.5:
+            self.log.append(tag, text)
+        elif 0.5 <= fate < 0.75:
+            self.held.append((time.monotonic() + self.chance.uniform(0, LATE), tag, text))
+        elif 0.75 <= fate:
+            self.log.append(tag, text)
+            self.double(tag, text)
+        return AppendOutcome.UNKNOWN
+
+    def double(self, tag, text):
+        """Appends an entry that is there already, under another tag of the engine."""
+        self.doubled += self.log.append("%s+%d" % (tag, self.doubled), text) is AppendOutcome.APPENDED
+
+    def deliver(self, until):
+        """Appends what was held back until a time, which is mostly after the retry: under its tag, or as if the engine knew no tags."""
+        due, self.held = [it for it in self.held if it[0] <= until], [it for it in self.held if it[0] > until]
+        for _, tag, text in due:
+            self.late += 1
+            if self.log.append(tag, text) is AppendOutcome.TAKEN and self.chance.random() < 0.5:
+                self.double(tag, text)
+
+    def read(self, index, wait=0.0):
+        self.deliver(time.monotonic())
+        if self.chance_of_reads.random() < self.unread_rate:
+            self.unread += 1
+            raise Away("an answer was lost")
+        return self.log.read(index, wait)
+
+    def close(self):
+        self.deliver(time.monotonic() + LATE)
+        self.log.close()
 
 
-class NewTag(Member):
+class NewTag(ModelMember):
     """Where it does not see its entry it asks again under a new number."""
     extra, last = 0, None
 
@@ -62,7 +97,7 @@ class NewTag(Member):
             self.stopped, self.index = None, self.index + 1
 
 
-class Early(Member):
+class Early(ModelMember):
     """It answers before the append is known."""
 
     def want(self):
@@ -74,21 +109,21 @@ class Early(Member):
         return want
 
 
-class Stale(Member):
+class Stale(ModelMember):
     """It answers at what it has read where more was wanted."""
 
     def ask(self, call, at_least=0, request=None, note=b""):
         super().ask(call, 0, request, note)
 
 
-class Skips(Member):
+class Skips(ModelMember):
     """It skips a number."""
 
     def number(self):
         return super().number() + (self.numbers.get(self.seat, 0) == 3)
 
 
-class Twice(Member):
+class Twice(ModelMember):
     """It appends two calls where one was asked."""
 
     def want(self):
@@ -126,7 +161,7 @@ class Run:
     def __init__(self, log_name, members, calls, wrong, seed):
         self.log_name, self.calls, self.seed = log_name, calls, seed
         self.answered, self.lock, self.seen = [], threading.Lock(), 0
-        self.stops, self.ends, self.lost = [], [], 0
+        self.stops, self.ends, self.lost, self.late, self.doubled, self.unread = [], [], 0, 0, 0, 0
         kinds = [WRONG[wrong] if wrong and at == 0 else Member for at in range(members)]
         self.threads = [threading.Thread(target=self._member, args=(at, kind)) for at, kind in enumerate(kinds)]
 
@@ -155,9 +190,11 @@ class Run:
             self.stops.append(stopped)
         with self.lock:
             self.ends.append((member.index, member.repository.ask(b"history\n"), member.stopped))
-            self.lost += log.lost
         member.repository.close()
         log.close()
+        with self.lock:
+            self.lost, self.late, self.doubled = self.lost + log.lost, self.late + log.late, self.doubled + log.doubled
+            self.unread += log.unread
 
     def _take(self, member):
         taken = 0
@@ -276,8 +313,9 @@ def main():
     replay, wrong = check(run, texts)
     for line in wrong[:5] + run.stops[:1]:
         print(line)
-    print("%d members, %d answers, %d entries, %d calls in the history, %d appends without an answer, %d stops, %.1f seconds, %d wrong"
-          % (given.members, len(run.answered), len(texts), replay.count, run.lost, len(run.stops), seconds, len(wrong)))
+    print("%d members, %d answers, %d entries, %d calls in the history, %d appends without an answer, %d reads without one, %d late, %d entries "
+          "twice, %d stops, %.1f seconds, %d wrong" % (given.members, len(run.answered), len(texts), replay.count, run.lost, run.unread, run.late,
+                                                       run.doubled, len(run.stops), seconds, len(wrong)))
     lacks = len(run.answered) < given.members * given.calls and not run.stops
     return 0 if bool(wrong or run.stops) == bool(given.wrong) and not lacks else 1
 

@@ -202,7 +202,7 @@ class Errors(unittest.TestCase):
         forms = ((camp.answers.read_changes, b"edit f 1\n+a\n-b\nend\n"), (camp.answers.read_changes, b"edit f 1\n+a\n"),
                  (camp.answers.read_changes, b"what\n"), (camp.answers.read_conflicts, b"a\n"), (camp.answers.read_history, b"1 2\n"),
                  (camp.answers.read_annotated, b"a b\n"), (camp.answers.read_marks, b"conflict 1 1\n=a\n"), (camp.answers.read_marks, b"what\n"),
-                 (lambda answer: camp.answers.read_tree(answer, 1), b"file f x\n"), (camp.answers.read_outcome, b"ok 1\nconflicts 1\n"))
+                 (lambda answer: camp.answers.read_tree(answer, 1), b"file f x\n"), (lambda answer: camp.answers.read_outcome(1, answer), b"conflicts 1\n"))
         for read, lines in forms:
             with self.subTest(lines=lines):
                 self.assertRaises(camp.Unexpected, read, camp.answers.Answer(lines))
@@ -250,6 +250,23 @@ class Pictures(unittest.TestCase):
                 self.assertRaises(camp.NoBranch, view.picture, "none")
                 self.assertRaises(camp.NoPatch, view.picture, "main", ["none"])
                 self.assertRaises(TypeError, view.picture, "main", "alone")
+
+
+class WhatIfs(unittest.TestCase):
+    def test_some_files_of_a_tree_are_read_alone(self):
+        with two_branches() as repository:
+            # Lines that look like the heads of files, and names of patches like the head of the tree.
+            lines = [b"file f 9", b"tree 1", b"", b"=file g 1"]
+            repository.record("other", "tree", [Add("g"), Edit("g", 1, [], lines), Add("a"), Add("gg")])
+            repository.record("main", "zone", [Add("g")])
+            whole = repository.whatif.pull("other", "main")
+            self.assertEqual(whole.opened, [("english", "german"), ("tree", "zone")])
+            for paths in ([], ["f"], ["g", "none", "a"], ["a", "f", "g", "gg"], [":"]):
+                some = repository.whatif.pull("other", "main", paths=paths)
+                self.assertEqual(some, whole._replace(tree={path: whole.tree[path] for path in paths if path in whole.tree}))
+            self.assertEqual(repository.whatif.pull("main", "other", ["english"], paths=["g"]).tree, {"g": lines})
+            self.assertRaises(camp.Depends, repository.whatif.obliterate, "main", ["start"])
+            self.assertRaises(camp.NothingToDo, repository.whatif.pull, "main", "other", [], paths=["g"])
 
 
 class Views(unittest.TestCase):

@@ -1,15 +1,17 @@
 """Tests SqliteLog, RememberedLog and Shared over them: `python3 -m unittest test_logs`, in this folder."""
 
 import contextlib
+import fcntl
 import os
 import sqlite3
 import tempfile
 import threading
+import time
 import unittest
 
 from camp import Add, Edit, NoBranch, PatchExists, TooLarge
 from camp.logs import TITLE, AppendOutcome, Away, Damaged, Foreign, RememberedLog, SqliteLog, open_log, title_with
-from camp.shared import Shared, Stopped
+from camp.shared import NOT_READ, LogRefused, Shared, Stopped, turn
 
 
 class Sqlite(unittest.TestCase):
@@ -83,6 +85,43 @@ class Sqlite(unittest.TestCase):
             own = [entry for entry in entries if entry.startswith(b"%d " % seat)]
             self.assertEqual(own, [b"%d %d" % (seat, number) for number in range(20)])
 
+    def test_who_waits_writes_before_who_has_just_written(self):
+        def wait():
+            with contextlib.closing(SqliteLog(self.path)) as log:
+                while log.append("w/%d" % at, b"waits") is AppendOutcome.UNKNOWN:
+                    pass
+        with open(self.path + "-queue", "rb") as queue:
+            for at in range(20):
+                self.log._base().execute("BEGIN IMMEDIATE")
+                waiter = threading.Thread(target=wait)
+                waiter.start()
+                with contextlib.suppress(BlockingIOError):
+                    while fcntl.flock(queue, fcntl.LOCK_EX | fcntl.LOCK_NB) is None:
+                        fcntl.flock(queue, fcntl.LOCK_UN)
+                        time.sleep(0.001)
+                self.log._base().execute("COMMIT")
+                while self.log.append("s/%d" % at, b"writes again") is AppendOutcome.UNKNOWN:
+                    pass
+                waiter.join()
+        # Where it waited for too long in between it has lost its turn.
+        entries = self.log.read(1)
+        self.assertGreater(sum(entries[at] == b"waits" for at in range(0, 40, 2)), 10)
+
+    def test_a_process_that_was_stopped_in_its_turn_stops_nobody(self):
+        with open(self.path + "-queue", "rb") as queue:
+            fcntl.flock(queue, fcntl.LOCK_EX)
+            self.assertIs(self.log.append("s/1", b"one"), AppendOutcome.APPENDED)
+
+    def test_what_is_interrupted_is_rolled_back(self):
+        def interrupt(*_):
+            raise KeyboardInterrupt
+        self.log._base().create_function("interrupt", 0, interrupt)
+        self.log._base().execute("CREATE TEMP TRIGGER stop AFTER INSERT ON main.entries BEGIN SELECT interrupt(); END")
+        self.assertIs(self.log.append("s/1", b"one"), AppendOutcome.UNKNOWN)
+        self.log._base().execute("DROP TRIGGER stop")
+        with contextlib.closing(SqliteLog(self.path)) as other:
+            self.assertIs(other.append("s/1", b"one"), AppendOutcome.APPENDED)
+
     def test_a_removed_entry_shows(self):
         for number in range(4):
             self.log.append("s/{}".format(number), b"x")
@@ -106,8 +145,12 @@ class Sqlite(unittest.TestCase):
         with contextlib.closing(sqlite3.connect(other)) as base:
             base.execute("CREATE TABLE other (it)")
         for path in (text, other):
+            with open(path, "rb") as file:
+                before = file.read()
             with self.assertRaises(Foreign):
                 open_log("sqlite:" + path)
+            with open(path, "rb") as file:
+                self.assertEqual(file.read(), before)
 
     def test_what_was_read_is_remembered(self):
         self.log.append("s/1", b"one")
@@ -163,6 +206,49 @@ class SharedRepository(unittest.TestCase):
         calls = [(b"branch b%d main\n" % (number % 250), b"") for number in range(255)]
         self.assertEqual(anna.write_all(calls)[249:252], [b"ok 250\n", b"refused 5 b0\n", b"refused 5 b1\n"])
         self.assertEqual(anna.entries, 2)
+
+    def test_a_question_follows_what_was_seen(self):
+        anna, ben = self.share(), self.share()
+        self.assertEqual(anna.record("main", "p", [Add("f")]), 1)
+        member = ben._member
+        for at_least in (0, 1, 2):
+            member.ask(b"names main\n", at_least, at_least)
+        while len(member.answers) < 3:
+            turn(member, self.logs[1])
+        self.assertEqual([it[:2] for it in member.answers], [(0, b"names 0\n"), (1, b"names 1\np\n"), (2, NOT_READ)])
+
+    def test_a_process_goes_on_under_a_new_seat(self):
+        anna = self.share()
+        anna.record("main", "p", [Add("f")])
+        self.logs.append(open_log(self.address))
+        anna.go_on_with(self.logs[-1])
+        anna.record("main", "q", [Add("g")])
+        heads = [entry.split(b"\n")[0].split() for entry in self.logs[-1].read(1)]
+        self.assertEqual([(it[0], it[2]) for it in heads], [(b"entry", b"1"), (b"entry", b"1")])
+        self.assertNotEqual(heads[0][1], heads[1][1])
+        anna._member.ask(b"branch b main\n")
+        self.assertFalse(anna._member._decides.take_seat("0" * 32))
+
+    def test_a_full_log_refuses_and_goes_on_when_there_is_room(self):
+        anna = self.share()
+        base = self.logs[0]._base()
+        base.execute("PRAGMA max_page_count = 1")
+        with self.assertRaises(LogRefused):
+            anna.record("main", "p", [Add("f"), Edit("f", 1, [], ["x" * 999] * 60)])
+        base.execute("PRAGMA max_page_count = 1000000")
+        self.assertEqual((anna.sync(), anna.record("main", "p", [Add("f")]), anna.names("main")), (0, 1, ["p"]))
+
+    def test_a_log_that_was_cut_is_damaged(self):
+        anna, ben = self.share(), self.share()
+        anna.record("main", "p", [Add("f")])
+        ben.sync()
+        with contextlib.closing(sqlite3.connect(self.address.partition(":")[2])) as base:
+            base.execute("DELETE FROM entries WHERE at = 1")
+            base.commit()
+        for one in (anna, ben):
+            with self.assertRaises(Damaged) as damaged:
+                one.sync()
+            self.assertEqual((damaged.exception.index, one.names("main")), (1, ["p"]))
 
     def test_a_foreign_entry_stops(self):
         anna = self.share()

@@ -4,10 +4,8 @@ Words: sqlite, etcd, postgres name parts; none: all. A part whose engine is not 
 of camp.shared, in clients/python; the library is found as golden/clients finds it.
 """
 
-import contextlib
-import glob
 import os
-import subprocess
+import re
 import sys
 from concurrent.futures import ThreadPoolExecutor
 
@@ -16,6 +14,7 @@ from tests.harness.clients import built_library
 from tests.harness.etcd import servers
 from tests.harness.folders import temporary
 from tests.harness.paths import TOP
+from tests.harness.postgres import python_with_psycopg, server
 
 SECONDS, GATE = 25, "after camp_c"
 CHECK = f"{TOP}/clients/python/check_members.py"
@@ -23,8 +22,8 @@ CHECK = f"{TOP}/clients/python/check_members.py"
 PLANTED = ("new-tag", "early", "stale", "skips", "twice")
 # A wrong member is not always wrong where it is seen, less so on a busy machine, so it gets so many runs at most.
 RUNS = 40
-# Who runs a server in place of root, which PostgreSQL refuses.
-NOBODY = 65534
+# What is counted of a run.
+COUNTS = re.compile(rb"(?P<answers>\d+) answers, .* (?P<late_appends>\d+) late, (?P<entries_twice>\d+) entries twice")
 
 
 def run(report, words):
@@ -56,39 +55,17 @@ def etcd(report, folder, environment):
     """Three members of a log in three servers on this machine."""
     with servers(report, folder) as endpoints:
         if endpoints:
-            agrees(report, "etcd", check(f"etcd:{endpoints}/right", environment, 3, 25, 1))
+            agrees(report, "etcd", check(f"etcd:{endpoints}/right", environment, 3, 75, 1))
 
 
 def postgres(report, folder, environment):
     """Three members of a log in one server on this machine."""
-    found = sorted(glob.glob("/usr/lib/postgresql/*/bin"))
-    python = next((it for it in (sys.executable, "/usr/bin/python3") if has_psycopg(it)), None)
-    if not found or not python:
+    python = python_with_psycopg()
+    if not python:
         report.skip("PostgreSQL with psycopg2")
         return
-    with server(found[-1]) as dsn:
-        agrees(report, "postgres", check(f"postgres:{dsn}", environment, 3, 25, 1, python=python))
-
-
-def has_psycopg(python):
-    return os.path.exists(python) and programs.run([python, "-c", "import psycopg2"]).returncode == 0
-
-
-@contextlib.contextmanager
-def server(binaries):
-    """A server of PostgreSQL with a socket in a folder of its own; its address."""
-    as_nobody = [] if os.geteuid() else ["setpriv", f"--reuid={NOBODY}", f"--regid={NOBODY}", "--clear-groups"]
-    with temporary("postgres-") as folder:
-        if as_nobody:
-            os.chown(folder, NOBODY, NOBODY)
-        how = {"cwd": folder, "check": True, "stdin": subprocess.DEVNULL, "stdout": subprocess.DEVNULL}
-        control = [*as_nobody, f"{binaries}/pg_ctl", "-D", f"{folder}/data", "-w", "-t", "120"]
-        subprocess.run([*as_nobody, f"{binaries}/initdb", "-D", f"{folder}/data", "-A", "trust", "-U", "camp"], **how)
-        subprocess.run([*control, "-l", f"{folder}/log", "-o", f"-k {folder} -c listen_addresses=''", "start"], **how)
-        try:
-            yield f"host={folder} user=camp dbname=postgres"
-        finally:
-            subprocess.run([*control, "-m", "immediate", "stop"], **how)
+    with server() as socket:
+        agrees(report, "postgres", check(f"postgres:host={socket} user=camp dbname=postgres", environment, 3, 75, 1, python=python))
 
 
 def check(log, environment, members, calls, seed, *words, python=sys.executable):
@@ -96,6 +73,11 @@ def check(log, environment, members, calls, seed, *words, python=sys.executable)
 
 
 def agrees(report, name, done):
-    if done.returncode:
-        report.fail(f"{name}: status {done.returncode}:\n{(done.stdout + done.stderr).decode(errors='replace')[-3000:]}")
+    """The members of a run were answered as the replay of their log, of which some entries came late and some twice."""
+    found = COUNTS.search(done.stdout)
+    if done.returncode or not found:
+        return report.fail(f"{name}: status {done.returncode}:\n{(done.stdout + done.stderr).decode(errors='replace')[-3000:]}")
+    for what, number in found.groupdict().items():
+        report.expect(f"{name}: {what} > 0", int(number) > 0, True)
+        report.count(what.replace("_", " "), int(number))
     report.count("right members")

@@ -1,4 +1,4 @@
-"""Members of a shared log are killed, its servers stop, its entries change: each answered call is there once, and damage is reported.
+"""Members of a shared log are paused and killed, its servers stop, its entries change: each answered call is there once, and damage is reported.
 
 Words: kills, servers, entries name parts; a number: so many kills of members. It needs the library for C; without etcd `servers` is
 skipped. The members are processes over camp.shared, which record one patch after another and say which number each got.
@@ -20,20 +20,25 @@ import urllib.request
 from tests.harness import etcd, programs
 from tests.harness.clients import built_library
 from tests.harness.folders import temporary
-from tests.harness.paths import TOP
+from tests.harness.paths import TOP, read
 
-SECONDS, GATE = 90, "never"
+SECONDS, GATE = 90, "after camp_c"
 # How many members run at once, how many are killed, and between which seconds.
 MEMBERS, KILLS, LIFE = 4, 12, (0.3, 1.2)
 # The leader of etcd is paused for so many seconds.
 PAUSE = 6
+# Members stand still where none was answered for so many seconds. One starves where it was answered less than was waited for while each other
+# one was answered so many calls, and that for so many seconds.
+STILL, MANY, LONG = 600, 300, 60
+# It says where it is when it is asked by a signal. The branch has room for more patches than a fast machine records.
 MEMBER = """
-import sys
+import faulthandler, signal, sys
 from camp import Add
-from camp.logs import open_log
+from camp.logs import open_log, title_with
 from camp.shared import Shared
-shared = Shared(open_log(sys.argv[1]))
-shared.sync()
+faulthandler.register(signal.SIGUSR1)
+shared = Shared(open_log(sys.argv[1], title_with(1_000_000, 256)))
+print(shared.sync(), flush=True)
 for at in range(1_000_000):
     name = "%s-%d" % (sys.argv[2], at)
     number = shared.record("main", name, [Add(name)])
@@ -81,57 +86,100 @@ def run(report, words):
 
 
 class Members:
-    """Members of one log, which are killed in the end, and what each was answered."""
+    """Members of one log, which are killed in the end, and what each was answered. `within` are words before a command."""
 
-    def __init__(self, address, environment):
-        self.address, self.environment, self.peers, self.readers, self.answered = address, environment, {}, [], {}
+    def __init__(self, address, folder, environment, program=MEMBER, within=()):
+        self.address, self.folder, self.environment, self.program, self.within = address, folder, environment, program, within
+        self.peers, self.readers, self.answered = {}, {}, {}
         for _ in range(MEMBERS):
             self.begin()
 
     def begin(self):
-        name = f"p{len(self.answered)}"
-        self.answered[name] = []
-        self.peers[name] = programs.start([sys.executable, "-c", MEMBER, self.address, name], env=self.environment)
-        self.readers.append(threading.Thread(target=self.read, args=(name,)))
-        self.readers[-1].start()
+        name = f"p{len(self.readers)}"
+        with open(self.errors(name), "wb") as errors:
+            words = [*self.within, sys.executable, "-c", self.program, self.address, name]
+            self.peers[name] = programs.start(words, env=self.environment, stderr=errors)
+        self.readers[name] = threading.Thread(target=self.read, args=(name, self.peers[name].stdout))
+        self.readers[name].start()
 
-    def read(self, name):
-        for line in self.peers[name].stdout:
+    def errors(self, name):
+        return f"{self.folder}/{name}.errors"
+
+    def read(self, name, lines):
+        """Notes what a member is answered, once it has said that it has read the log."""
+        if lines.readline():
+            self.answered[name] = []
+        for line in lines:
             if line.endswith(b"\n"):
                 patch, number = line.decode().split()
                 self.answered[name].append((patch, int(number)))
 
-    def wait(self, more, seconds=600):
-        """Waits until each member that runs was answered so many calls more."""
-        before, end = {name: len(self.answered[name]) for name in self.peers}, time.monotonic() + seconds
-        while any(len(self.answered[name]) < before[name] + more for name in self.peers) and time.monotonic() < end:
+    def counts(self):
+        """How many calls each member was answered that runs and has read the log."""
+        return {name: len(self.answered[name]) for name in self.peers if name in self.answered}
+
+    def wait(self, more):
+        """Waits until each member that runs has read the log, and was then answered so many calls. Returns why that does not come, which is
+        no matter of how slow the machine is."""
+        why = self.until(lambda counts: len(counts) == len(self.peers))
+        before = self.counts()
+        return why or self.until(lambda counts: all(counts[name] >= before[name] + more for name in counts), before)
+
+    def until(self, is_done, before=None):
+        """Waits until the counts are as they are awaited. Returns why not: a member has ended, or starves, or all stand still."""
+        began = moved = now = time.monotonic()
+        seen = None
+        while not is_done(counts := self.counts()):
+            moved, seen, now = moved if counts == seen else now, counts, time.monotonic()
+            ended = [name for name, peer in self.peers.items() if peer.poll() is not None]
+            starves = before and now > began + LONG and sorted(counts[name] - before[name] for name in counts)[1] >= MANY
+            if ended or starves or now > moved + STILL:
+                what = "one has ended" if ended else "one starves" if starves else "all stand still"
+                return f"{what}: {counts} after {before}\n{self.told(ended)}"
             time.sleep(0.05)
-        return time.monotonic() < end
+        return ""
+
+    def told(self, ended):
+        """What members say that have ended, or else where all are now."""
+        for name in self.peers:
+            if not ended:
+                self.peers[name].send_signal(signal.SIGUSR1)
+        time.sleep(0 if ended else 1)
+        return "\n".join(f"{name}: {read(self.errors(name))[-2000:].decode(errors='replace')}" for name in ended or self.peers)
+
+    @contextlib.contextmanager
+    def paused(self, name):
+        """Stops a member, which may be about to write, for a while."""
+        self.peers[name].send_signal(signal.SIGSTOP)
+        try:
+            yield
+        finally:
+            self.peers[name].send_signal(signal.SIGCONT)
 
     def kill(self, name):
         peer = self.peers.pop(name)
         peer.kill()
-        peer.communicate()
+        peer.wait()
+        # What it wrote before counts.
+        self.readers[name].join()
 
     def end(self):
         for name in list(self.peers):
-            self.peers[name].kill()
-            self.peers[name].wait()
-        for reader in self.readers:
-            reader.join()
+            self.kill(name)
 
 
 def kills(report, folder, environment, number):
-    """Members over SQLite are killed at random moments, and others begin."""
-    members, chance = Members(f"sqlite:{folder}/log.db", environment), random.Random(number)
+    """Members over SQLite are paused and killed at random moments, and others begin."""
+    members, chance = Members(f"sqlite:{folder}/log.db", folder, environment), random.Random(number)
     try:
-        report.expect("members answer", members.wait(1), True)
+        report.expect("members answer", members.wait(1), "")
         for _ in range(number):
-            time.sleep(chance.uniform(*LIFE))
+            with members.paused(chance.choice(list(members.peers))):
+                time.sleep(chance.uniform(*LIFE))
             members.kill(chance.choice(list(members.peers)))
             members.begin()
-            report.count("kills of members")
-        report.expect("members answer after the kills", members.wait(1), True)
+            report.count("pauses and kills of members")
+        report.expect("members answer after the kills", members.wait(1), "")
     finally:
         members.end()
     check(report, members)
@@ -142,18 +190,18 @@ def servers(report, folder, environment, number):
     with etcd.servers(report, folder) as endpoints:
         if not endpoints:
             return
-        members = Members(f"etcd:{endpoints}/log", environment)
+        members = Members(f"etcd:{endpoints}/log", folder, environment)
         try:
-            report.expect("members answer", members.wait(1), True)
+            report.expect("members answer", members.wait(1), "")
             paused = leader(folder, endpoints)
             os.kill(paused, signal.SIGSTOP)
             time.sleep(PAUSE)
             os.kill(paused, signal.SIGCONT)
             report.count("pauses of the leader")
-            report.expect("members answer after the pause", members.wait(2), True)
+            report.expect("members answer after the pause", members.wait(2), "")
             os.kill(leader(folder, endpoints), signal.SIGKILL)
             report.count("kills of the leader")
-            report.expect("members answer after the leader's end", members.wait(2), True)
+            report.expect("members answer after the leader's end", members.wait(2), "")
         finally:
             members.end()
         check(report, members)
@@ -202,8 +250,8 @@ def leader(folder, endpoints):
     raise TimeoutError("no member of etcd leads")
 
 
-def replay(report, address, environment):
-    done = programs.run([sys.executable, "-c", REPLAY, address], env=environment)
+def replay(report, address, environment, within=()):
+    done = programs.run([*within, sys.executable, "-c", REPLAY, address], env=environment)
     if not report.expect(f"a session that reads {address}", (done.returncode, done.stderr), (0, b"")):
         return None, 0, []
     return json.loads(done.stdout)
@@ -212,11 +260,12 @@ def replay(report, address, environment):
 def check(report, members):
     """One session that reads the log has each answered call at its number, no call twice, and of each member at most one call more
     than were answered."""
-    why, _, commands = replay(report, members.address, members.environment)
+    why, _, commands = replay(report, members.address, members.environment, members.within)
     report.expect("the log is read to its end", why, None)
     patches = [it.split()[2] for it in commands]
     lost = wrong = beyond = 0
-    for name, answered in members.answered.items():
+    for name in members.readers:
+        answered = members.answered.get(name, [])
         lost += sum(patch not in set(patches) for patch, _ in answered)
         wrong += sum(patches[number - 1:number] != [patch] for patch, number in answered)
         own = [it for it in patches if it.startswith(f"{name}-")]
@@ -229,14 +278,19 @@ def check(report, members):
 
 # What is done to a log of five entries behind its title, and what a session says that reads it then: why it stops, and after how many
 # entries; the seats of its entries are all one.
+DAMAGED = "an entry was changed or removed: the log is read up to entry {} alone"
 CHANGES = {
-    "a byte of an entry": ("UPDATE entries SET text = CAST(replace(text, 'record', 'recond') AS BLOB) WHERE at = 3", "a foreign entry at entry 3 of the log", 3),
-    "an entry deleted": ("DELETE FROM entries WHERE at = 3", "an entry was changed or removed: the log is read up to entry 3 alone", 3),
-    "an entry cut": ("UPDATE entries SET text = substr(text, 1, 45) WHERE at = 3", "a foreign entry at entry 3 of the log", 3),
-    "a number skipped": ("UPDATE entries SET text = CAST(replace(text, ' 3' || char(10), ' 4' || char(10)) AS BLOB) WHERE at = 3", "a foreign entry at entry 3 of the log", 3),
+    "a byte of an entry": ("UPDATE entries SET text = CAST(replace(text, 'record', 'recond') AS BLOB) WHERE at = 3", DAMAGED.format(3), 3),
+    "another call": ("UPDATE entries SET text = CAST(replace(text, 'add p', 'add q') AS BLOB) WHERE at = 3", DAMAGED.format(3), 3),
+    "an entry deleted": ("DELETE FROM entries WHERE at = 3", DAMAGED.format(3), 3),
+    "an entry cut": ("UPDATE entries SET text = substr(text, 1, 45) WHERE at = 3", DAMAGED.format(3), 3),
+    "an empty entry": ("UPDATE entries SET text = x'' WHERE at = 5", DAMAGED.format(5), 5),
+    "other limits": ("UPDATE entries SET text = CAST(replace(text, 'log 1', 'log 1 catches 9 branches 9') AS BLOB) WHERE at = 0", DAMAGED.format(0), 0),
+    "an entry of another program": ("UPDATE entries SET text = x'610a' WHERE at = 3", "a foreign entry at entry 3 of the log", 3),
+    "a number skipped": ("UPDATE entries SET text = CAST(replace(substr(text, 1, length(text) - 8), ' 3' || char(10), ' 4' || char(10)) AS BLOB) WHERE at = 3",
+                         "a foreign entry at entry 3 of the log", 3),
     "an entry doubled": ("INSERT INTO entries SELECT 6, 'again', text FROM entries WHERE at = 3", None, 7),
-    "another version": ("UPDATE entries SET text = CAST(replace(text, 'log 1', 'log 2') AS BLOB) WHERE at = 0", "no title of a log of camp at entry 0 of the log", 0),
-    "an empty entry": ("UPDATE entries SET text = x'' WHERE at = 5", "a foreign entry at entry 5 of the log", 5),
+    "another version": ("UPDATE entries SET text = x'63616d70206c6f6720320a' WHERE at = 0", "no title of a log of camp at entry 0 of the log", 0),
 }
 
 
@@ -245,7 +299,7 @@ def entries(report, folder, environment, number):
     for name, (sql, why, read) in CHANGES.items():
         path = f"{folder}/{re.sub(' ', '-', name)}.db"
         done = programs.run([sys.executable, "-c", MEMBER.replace("1_000_000", "5"), f"sqlite:{path}", "p"], env=environment)
-        report.expect(f"{name}: calls", done.stdout, b"".join(b"p-%d %d\n" % (at, at + 1) for at in range(5)))
+        report.expect(f"{name}: calls", done.stdout, b"0\n" + b"".join(b"p-%d %d\n" % (at, at + 1) for at in range(5)))
         with sqlite3.connect(path) as base:
             base.execute(sql)
         wanted = [f"record main p-{at} add p-{at}" for at in range(min(5, max(0, read - 1)))]

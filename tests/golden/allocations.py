@@ -79,12 +79,10 @@ def count_of(program, row):
 
 
 def seconds_of(program, table):
-    """The least seconds of a processor that the program takes for a table, of three runs."""
-    ends = [programs.used_seconds()]
-    for _ in range(3):
-        programs.run([program], table)
-        ends.append(programs.used_seconds())
-    return min(end - start for start, end in zip(ends, ends[1:]))
+    """The seconds of a processor that the program takes for a table."""
+    before = programs.used_seconds()
+    programs.run([program], table)
+    return programs.used_seconds() - before
 
 
 def run(report, words):
@@ -96,7 +94,6 @@ def run(report, words):
             report.count("operations")
     for small, large, lines in GROWS.findall(text):
         table = "table x\nquiet\n" + lines.replace("; ", "\n") + "\n"
-        times = [seconds_of(program, filled(table, int(size))) for size in (small, large)]
-        if times[1] > 2 * times[0] * int(large) / int(small):
-            report.fail(f"{lines}: {times[0]:.2f} s at {small}, {times[1]:.2f} s at {large}")
+        is_well = programs.is_in_proportion(lambda size: seconds_of(program, filled(table, size)), int(small), int(large))
+        report.expect(f"{lines}: the time at {large} is in proportion to that at {small}", is_well, True)
         report.count("times")

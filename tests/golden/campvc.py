@@ -1,16 +1,17 @@
-"""campvc: sessions at a terminal, copies over SQLite and etcd, mishaps, git both ways, and its page in a browser.
+"""campvc: its set-up, its size, sessions at a terminal, copies over SQLite, etcd and PostgreSQL, git both ways, and its page in a browser.
 
-Words: coding, sessions, etcd, mishaps, git, page name parts; none: all. The library is found as golden/clients finds it. Etcd, git, chromium and
-a Python with aiohttp and jinja2 are skipped where they are missing. Pictures of the page are left in out/campvc.
+Words: coding, size, setup, help_texts, readme, sessions, etcd, postgres, git, page name parts; none: all. The library is found as golden/clients finds it. Etcd,
+PostgreSQL with psycopg2, git, chromium and a Python with aiohttp and jinja2 are skipped where they are missing. Pictures of the page are left in out/campvc.
 
 tests/data/campvc has the sessions. A line `session WORDS` begins one, in a folder of its own; `shared` among its words says that it is run over
-etcd too. A line `NAME$ COMMAND` is a command for bash in the folder NAME, by the author of this name; what it writes follows, and
+etcd and PostgreSQL too. A line `NAME$ COMMAND` is a command for bash in the folder NAME, by the author of this name; what it writes follows, and
 `[STATUS]` unless that is 0. LOG is the address of a log. In what is written the six digits of a patch's name stand as `#`, the folder of the
 session as FOLDER, and the address as LOG.
 """
 
 import contextlib
 import functools
+import glob
 import html
 import json
 import os
@@ -20,6 +21,8 @@ import shutil
 import signal
 import sys
 import time
+import tokenize
+import urllib.parse
 from concurrent.futures import ThreadPoolExecutor
 
 from tests.harness import programs
@@ -27,9 +30,10 @@ from tests.harness.clients import built_library
 from tests.harness.etcd import servers
 from tests.harness.folders import temporary
 from tests.harness.paths import DATA, TOP, read_text
+from tests.harness.postgres import python_with_psycopg, server as server_of_postgres
 
-SECONDS, GATE = 150, "after camp_c"
-PARTS = ("coding", "sessions", "etcd", "mishaps", "git", "page")
+SECONDS, GATE = 170, "after camp_c"
+PARTS = ("coding", "size", "setup", "help_texts", "readme", "sessions", "etcd", "postgres", "git", "page")
 AUTHORS = {"anna": "Anna Berg <anna@example.org>", "ben": "Ben Ole <ben@example.org>"}
 DATE = "2026-11-30T03:00:00+00:00"
 COMMAND = re.compile(r"^(\w+)\$ (.*)$")
@@ -66,15 +70,15 @@ def python_with(modules):
 def environment(folder, who="anna", **more):
     """The environment of a command: `campvc` is on the PATH, and names and dates are the same each time."""
     own = {"PATH": f"{folder}/bin:{os.environ['PATH']}", "PYTHONPATH": ":".join(PACKAGES), "PYTHONDONTWRITEBYTECODE": "1", "HOME": folder,
-           "CAMPVC_COPY": who, "CAMPVC_AUTHOR": AUTHORS.get(who, who), "CAMPVC_DATE": DATE, "CAMPVC_PATIENCE": "1", "CAMPVC_SERVER": os.environ.get("CAMPVC_SERVER", "0"), "LC_ALL": "C.UTF-8"}
+           "CAMPVC_COPY": who, "CAMPVC_AUTHOR": AUTHORS.get(who, who), "CAMPVC_DATE": DATE, "CAMPVC_PATIENCE": "300", "CAMPVC_SERVER": os.environ.get("CAMPVC_SERVER", "0"), "LC_ALL": "C.UTF-8"}
     return {**os.environ, **own, **more}
 
 
-def prepare(folder):
-    """Puts a command `campvc` into a folder."""
+def prepare(folder, python=None):
+    """Puts a command `campvc` into a folder, for a Python."""
     os.makedirs(f"{folder}/bin", exist_ok=True)
     with open(f"{folder}/bin/campvc", "w", encoding="utf-8") as file:
-        file.write(f"#!/bin/sh\nexec {python_with('')} -m campvc \"$@\"\n")
+        file.write(f"#!/bin/sh\nexec {python or python_with('')} -m campvc \"$@\"\n")
     os.chmod(f"{folder}/bin/campvc", 0o755)
 
 
@@ -131,6 +135,80 @@ def record_tree(report, tree, Repository, Add, Edit):
         report.expect("tree of the repository", repository.tree("main"), tree)
 
 
+# Its size.
+
+# The lines that campvc may have, with its page.
+LINES = 1_500
+# Tokens that are no code.
+BLANK = (tokenize.ENCODING, tokenize.COMMENT, tokenize.NL, tokenize.NEWLINE, tokenize.INDENT, tokenize.DEDENT, tokenize.ENDMARKER)
+
+
+def size(report, folder):
+    """Lines of code in Python, without comments and docstrings, and of the page's templates; blank lines do not count."""
+    sources = glob.glob(f"{TOP}/apps/campvc/**/*.py", recursive=True)
+    templates = glob.glob(f"{TOP}/apps/campvc/campvc/templates/*")
+    count = sum(map(code_lines, sources)) + sum(bool(line.strip()) for path in templates for line in read_text(path).splitlines())
+    report.expect(f"at most {LINES} lines", min(count, LINES), count)
+    report.count("lines of campvc", count)
+
+
+def code_lines(path):
+    """The number of lines that have code in a source."""
+    with open(path, "rb") as file:
+        tokens = list(tokenize.tokenize(file.readline))
+    found = set()
+    for before, token, after in zip(tokens, tokens[1:], tokens[2:]):
+        is_docstring = token.type == tokenize.STRING and before.type in BLANK and after.type == tokenize.NEWLINE
+        if token.type not in BLANK and not is_docstring:
+            found.update(range(token.start[0], token.end[0] + 1))
+    return len(found)
+
+
+# What its README says first, and the words of its commands.
+
+def setup(report, folder):
+    """The two commands of README: the packages are installed with what the page needs, and make a working copy."""
+    import importlib.util
+    import venv
+    if not importlib.util.find_spec("ensurepip"):
+        report.skip("a Python that makes virtual environments")
+        return
+    first, second = re.search(r"```text\n(.*)\n(.*)\n```", read_text(f"{TOP}/apps/campvc/README.md")).groups()
+    report.expect("the first command", first, "clients/build && pip install clients/python apps/campvc")
+    venv.create(f"{folder}/venv", with_pip=True)
+    words = ["python", "-m", "pip", "install", "--quiet", "--no-index", "--disable-pip-version-check", *PACKAGES]
+    bare = {name: value for name, value in os.environ.items() if name not in ("PYTHONPATH", "CAMP_LIB_DIR")}
+    how = {"env": {**bare, "PATH": f"{folder}/venv/bin:{os.environ['PATH']}", "CAMPVC_AUTHOR": AUTHORS["anna"], "CAMPVC_COPY": "anna", "CAMPVC_SERVER": "0"}, "cwd": folder}
+    done = programs.run([f"{folder}/venv/bin/{words[0]}", *words[1:]], cwd=folder, env={**how["env"], "CAMP_LIB_DIR": os.environ["CAMP_LIB_DIR"], "PYTHONDONTWRITEBYTECODE": "1"})
+    report.expect("pip install", (done.returncode, done.stderr), (0, b""))
+    done = programs.run(["bash", "-c", f"{second} && echo soup >menu && campvc record -m Menu && campvc log"], **how)
+    report.expect("the second command", (done.returncode, done.stderr), (0, b""))
+    report.expect("what it says", all(it in done.stdout for it in (b"copy anna of branch main", b"annotate", b"recorded menu-")), True)
+    (installed,) = glob.glob(f"{folder}/venv/lib/python3*/site-packages/campvc")
+    own = f"{TOP}/apps/campvc/campvc"
+    report.expect("the templates", sorted(os.listdir(f"{installed}/templates")), sorted(os.listdir(f"{own}/templates")))
+    report.count("commands of README", 2)
+
+
+def help_texts(report, folder):
+    """Each command of README has `--help`, which says what it does and explains its words; wrong words have git's exit status."""
+    prepare(folder)
+    table = re.findall(r"^\| (`.*) \|.*\|$", read_text(f"{TOP}/apps/campvc/README.md"), re.M)
+    names = sorted(dict.fromkeys(it.split()[0] for row in table for it in re.findall(r"`([^`]*)`", row)))
+    listed = call(folder, "anna", "campvc --help")
+    report.expect("the commands of README", sorted(re.findall(r"^    (\w+)(?: |$)", listed.stdout.decode(), re.M)), names)
+    for name in names:
+        done = call(folder, "anna", f"campvc {name} --help")
+        text = done.stdout.decode()
+        report.expect(f"{name} --help", (done.returncode, text.startswith(f"usage: campvc {name} [-h]")), (0, True))
+        report.expect(f"{name} --help: a sentence", bool(re.search(r"\n\n[A-Z][^\n]*", text)), True)
+        report.count("helps")
+    for words, status in (("", 129), ("nothing", 129), ("record --nothing", 129), ("show", 129), ("status more", 129), ("web --port x", 129), ("--version", 0), ("--help", 0)):
+        done = call(folder, "anna", f"campvc {words}")
+        report.expect(f"campvc {words}", (done.returncode, b"Traceback" in done.stdout), (status, False))
+        report.count("command lines")
+
+
 # Sessions.
 
 def sessions_of(text):
@@ -154,9 +232,9 @@ def shown(done, folder, address):
     return [it for it in lines + [f"[{done.returncode}]"] * bool(done.returncode) if it or len(lines) > 1]
 
 
-def play(report, folder, title, steps, address):
+def play(report, folder, title, steps, address, python=None):
     """Runs the steps of a session, up to the first that writes something else."""
-    prepare(folder)
+    prepare(folder, python)
     for who, command, wanted in steps:
         while wanted and not wanted[-1]:
             wanted.pop()
@@ -167,16 +245,33 @@ def play(report, folder, title, steps, address):
     report.count("sessions")
 
 
-def play_all(report, folder, address, is_wanted):
+def play_all(report, folder, address, is_wanted, python=None):
     """Plays the sessions of the table that are wanted, several at once; the address of a log is made of the number of its session."""
 
     def play_one(numbered):
         number, (words, steps) = numbered
         if is_wanted(words):
-            play(report, f"{folder}/{number}", f"{address}: {' '.join(words)}", steps, address.format(number=number))
+            play(report, f"{folder}/{number}", f"{address}: {' '.join(words)}", steps, address.format(number=number), python)
 
     with ThreadPoolExecutor(programs.JOBS) as pool:
-        list(pool.map(play_one, enumerate(sessions_of(read_text(f"{DATA}/campvc")))))
+        list(pool.map(play_one, enumerate(all_sessions())))
+
+
+def all_sessions():
+    return sessions_of(read_text(f"{DATA}/campvc"))
+
+
+def readme(report, folder):
+    """The conflict of README, as it is shown there, and as Ben ends it."""
+    shown_there = re.search(r"## A conflict\n.*?```text\n(.*?)```", read_text(f"{TOP}/apps/campvc/README.md"), re.S)[1]
+    prepare(folder)
+    call(folder, "anna", "campvc init; printf 'soup\nbread\ncheese\n' >menu; campvc record -m 'The menu'")
+    call(folder, "ben", "campvc clone ../anna .; sed -i s/bread/rolls/ menu")
+    call(folder, "anna", "sed -i s/bread/'rye bread'/ menu; campvc record -m 'Rye bread'")
+    ((_, steps),) = sessions_of("session readme\n" + re.sub(r"(?<=[a-z0-9])-[0-9a-f]{6}\b", "-#", shown_there))
+    play(report, folder, "README", [(who, f"{command}; true", wanted) for who, command, wanted in steps], "LOG")
+    done = call(folder, "ben", "printf 'soup\nrolls of rye\ncheese\n' >menu; campvc record -m 'Rolls of rye'; campvc status")
+    report.expect("the end of README's conflict", (done.returncode, b"resolves the conflict of" in done.stdout, b"nothing to record" in done.stdout), (0, True, True))
 
 
 def sessions(report, folder):
@@ -190,112 +285,26 @@ def etcd(report, folder):
             play_all(report, folder, f"etcd:{endpoints}/s{{number}}", lambda words: "shared" in words)
 
 
-# Mishaps.
-
-def tree_of(folder):
-    """What stands in a working tree: its files, their modes and bytes."""
-    found = {}
-    for place, folders, names in os.walk(folder):
-        folders[:] = [it for it in folders if it != ".camp"]
-        for name in names:
-            path = os.path.join(place, name)
-            with open(path, "rb") as file:
-                found[os.path.relpath(path, folder)] = (os.stat(path).st_mode & 0o777, file.read())
-    return found
-
-
-def mishaps(report, folder):
-    prepare(folder)
-    setup = "campvc init --log $LOG; seq 200 >f; for i in $(seq 60); do echo $i >g$i; done; campvc record -m 'Start'; campvc branch other; campvc switch other;" \
-            "sed -i s/100/hundred/ f; rm g1 g2; echo new >h; campvc record -m 'Other'; campvc switch main"
-    how = {"LOG": f"sqlite:{folder}/log.db"}
-    report.expect("setup", call(folder, "anna", setup, **how).returncode, 0)
-    names_that_lead_out(report, folder, how)
-    interrupted(report, folder, how)
-    full_disk(report, folder, how)
-    at_once(report, folder, how)
-
-
-OUT = """
+DATABASES = """
 import sys
-from camp import Add, Edit
-from camp.logs import open_log
-from camp.shared import Shared
-with Shared(open_log(sys.argv[1])) as shared:
-    shared.sync()
-    for number, path in enumerate(sys.argv[2:]):
-        shared.record("main", f"out-{number}", [Add(path), Edit(path, 1, [], ["/etc"]), *([Add(f"%m/{path}"), Edit(f"%m/{path}", 1, [], ["120000"])] if path == "etc" else [])])
+import psycopg2
+base = psycopg2.connect(host=sys.argv[1], user="camp", dbname="postgres")
+base.autocommit = True
+for number in range(int(sys.argv[2])):
+    base.cursor().execute("CREATE DATABASE s%d" % number)
 """
 
 
-def names_that_lead_out(report, folder, how):
-    """Files that somebody else writes into `.camp`, `.git` or through a link are refused by name, and nothing changes."""
-    call(folder, "anna", f"campvc init ../out --log sqlite:{folder}/out.db; ln -s /tmp ../out/aside; echo aside >../out/.campignore; cd ../out && campvc record -m 'Ignored'")
-    before = tree_of(f"{folder}/out")
-    for number, paths in enumerate(([".camp/state.db"], ["d/.GIT/config"], ["etc", "etc/passwd"], ["aside/x"], ["%2E%2E/x"])):
-        own, where = f"out-{number}", f"sqlite:{folder}/out-{number}.db"
-        shutil.copytree(f"{folder}/out", f"{folder}/{own}", symlinks=True)
-        shutil.copy(f"{folder}/out.db", f"{folder}/{own}.db")
-        report.expect(f"{paths}: recorded", programs.run([sys.executable, "-c", OUT, where, *paths], env=environment(folder)).stderr, b"")
-        done = call(folder, own, f"campvc sync --log {where}")
-        is_nothing = paths == ["%2E%2E/x"]
-        report.expect(f"{paths}: status", done.returncode, 0 if is_nothing else 1)
-        report.expect(f"{paths}: named", is_nothing or paths[0].partition("/x")[0] in done.stdout.decode(), True)
-        report.expect(f"{paths}: the tree", tree_of(f"{folder}/{own}"), before)
-        report.count("names that lead out")
-
-
-def interrupted(report, folder, how):
-    """Ctrl-C or a kill at any moment of a pull and of a taking out: after the next command the tree is one of the two."""
-    before = tree_of(f"{folder}/anna")
-    report.expect("a pull", call(folder, "anna", "campvc pull other", **how).returncode, 0)
-    after = tree_of(f"{folder}/anna")
-    commands, chance, ended = ["campvc obliterate other -y", "campvc pull other"], random.Random(1), 0
-    for number in range(16):
-        process = programs.start(["bash", "-c", f"exec {commands[number % 2]}"], cwd=f"{folder}/anna", env=environment(folder, **how), start_new_session=True)
-        time.sleep(chance.uniform(0.05, 0.45))
-        with contextlib.suppress(ProcessLookupError):
-            os.killpg(process.pid, signal.SIGINT if number % 4 < 2 else signal.SIGKILL)
-        _, error = process.communicate()
-        ended += process.returncode != 0
-        # What Python itself says where it is interrupted before it runs the program is not the program's.
-        report.expect("what an interrupted command says", error[-2000:] if b"/apps/campvc/" in error else b"", b"")
-        report.expect("sync after Ctrl-C", call(folder, "anna", "campvc sync", **how).returncode, 0)
-        found = tree_of(f"{folder}/anna")
-        report.expect("the tree after Ctrl-C is one of the two", found in (before, after), True)
-        report.expect("status after Ctrl-C", b"nothing to record" in call(folder, "anna", "campvc status", **how).stdout, True)
-        call(folder, "anna", commands[number % 2], **how)
-        report.count("interruptions")
-    report.expect("interruptions before the end", ended > 0, True)
-
-
-def full_disk(report, folder, how):
-    """Files that can't grow past a size: words without a trace, the working tree as it was, and all goes on when there is room."""
-    os.makedirs(f"{folder}/anna", exist_ok=True)
-    call(folder, "anna", "campvc switch other; head -c 300000 /dev/urandom >big; campvc record -m 'Big'; campvc switch main", **how)
-    before = tree_of(f"{folder}/anna")
-    for size in (0, 4_096, 100_000, 250_000):
-        done = programs.run(["campvc", "pull", "other"], cwd=f"{folder}/anna", env=environment(folder, **how), preexec_fn=programs.limit_files(size))
-        report.expect(f"a pull where files have {size} bytes: status", done.returncode, 128)
-        report.expect(f"a pull where files have {size} bytes: words", done.stderr.count(b"\n") == 1 and b"Traceback" not in done.stderr, True)
-        report.expect(f"a pull where files have {size} bytes: the tree", tree_of(f"{folder}/anna"), before)
-        report.count("full disks")
-    report.expect("the same with room", call(folder, "anna", "campvc pull other && campvc status", **how).returncode, 0)
-
-
-def at_once(report, folder, how):
-    """Records from several terminals at once: each is there once."""
-    call(folder, "anna", "echo 0 >at-once; campvc record -m 'At once'", **how)
-    how = {**how, "CAMPVC_PATIENCE": "300"}
-    words = ["bash", "-c", "echo $0 >at-once-$0; campvc record -m \"Number $0\" at-once-$0"]
-    started = [programs.start([*words, str(number)], cwd=f"{folder}/anna", env=environment(folder, **how)) for number in range(6)]
-    for process in started:
-        out, error = process.communicate()
-        report.expect("a record of several at once", (process.returncode, error), (0, b""))
-    done = call(folder, "anna", "campvc log; campvc status", **how)
-    report.expect("records at once", sorted(re.findall(rb"Number (\d)", done.stdout)), [b"%d" % it for it in range(6)])
-    report.expect("nothing is left to record", b"nothing to record" in done.stdout, True)
-    report.count("records at once", len(started))
+def postgres(report, folder):
+    """The shared sessions over a server of PostgreSQL, each in a database of its own."""
+    python = python_with_psycopg()
+    if not python:
+        report.skip("PostgreSQL with psycopg2")
+        return
+    with server_of_postgres() as socket:
+        done = programs.run([python, "-c", DATABASES, socket, str(len(all_sessions()))])
+        report.expect("databases", (done.returncode, done.stderr), (0, b""))
+        play_all(report, folder, f"postgres:postgresql://camp@/s{{number}}?host={socket}", lambda words: "shared" in words, python)
 
 
 # Git.
@@ -392,6 +401,7 @@ def page(report, folder):
     call(folder, "anna", STORY, **how)
     with server(folder, python, **how) as address:
         views(report, address.rstrip("/"))
+        links(report, address.rstrip("/"))
         call(folder, "anna", "echo later >later; campvc record -m 'Later than the page'", **how)
         report.expect("the page shows what was recorded since", "Later than the page" in fetch(f"{address}b/main")[2], True)
         large(report, folder, python, address.rstrip("/"), how)
@@ -408,6 +418,7 @@ def views(report, address):
         "/b/main": ["The menu of the week", "A script &lt;script&gt;alert(1)&lt;/script&gt;", "in conflict with", "<svg", "Ben &lt;b&gt;Ole&lt;/b&gt;", "a &lt;b&gt; &#34;c&#34;.sh"],
         f"/b/main/patch/{names['wine']}": ["Held by", "no other patch", "+wine", "Anna Berg"],
         f"/b/main/patch/{names['rye-bread']}": ["Needs", "In conflict with", "unresolved", "-bread", "+rye bread"],
+        f"/b/main/patch/{names['a-script-script-alert-1-sc']}": ["new file", "+echo &#34;&lt;script&gt;", "\\x1b[31m\\xff", "&lt;img src=//example.org/x.png&gt;"],
         "/b/main/file?path=a%2520%3Cb%3E%2520%22c%22.sh": ["&lt;script&gt;document.title = 1&lt;/script&gt;", "\\x1b[31m", "\\xff", "Anna Berg"],
         "/b/main/conflicts": ["as it is now", "rye bread", "and butter", "10 to 6", "9 to 5"],
     }
@@ -424,6 +435,20 @@ def views(report, address):
         report.expect(f"{path}: no trace", "Traceback" in text or "Internal" in text, False)
         report.count("wrong addresses")
     report.expect("the name of another site", fetch(f"{address}/", Host="example.org")[0], 403)
+    report.expect("a file that is not there has no link", "hours</h2>" in fetch(f"{address}/b/main/conflicts")[2], True)
+
+
+def links(report, address):
+    """Each link of a page leads to a page."""
+    left, seen = ["/"], set()
+    while left:
+        path = left.pop()
+        if path not in seen:
+            status, _, text = fetch(address + path)
+            report.expect(f"{path}: a link to it", status, 200)
+            left += [urllib.parse.urljoin(path, html.unescape(it)) for it in re.findall(r'href="([^"#:]*)"', text)]
+        seen.add(path)
+    report.count("links", len(seen))
 
 
 def large(report, folder, python, address, how):

@@ -250,8 +250,9 @@ def interrupted(report, folder, how):
     """Ctrl-C at a question: the command ends, and nothing is recorded."""
     call(folder, "anna", "echo more >>hours", **how)
     process = programs.start(["campvc", "record", "-i", "-m", "More"], cwd=f"{folder}/anna", env=environment(folder, **how))
-    while b"record this change" not in process.stdout.read1():
-        pass
+    shown = b""
+    while b"record this change" not in shown and (more := process.stdout.read1()):
+        shown += more
     process.send_signal(signal.SIGINT)
     _, error = process.communicate(timeout=programs.TIMEOUT)
     report.expect("Ctrl-C at a question", (process.returncode, error), (130, b"campvc: interrupted: `campvc status` shows where you are\n"))

@@ -7,6 +7,15 @@ that is built already; else clients/build builds it, over the tree that CAMP_TRE
 from tests.harness.clients import Clients
 
 SECONDS, GATE = 60, "after camp_c"
+# A member in Python reads what members in Rust wrote, and writes a call.
+PEER = """
+import sys
+from camp import Add
+from camp.logs import open_log
+from camp.shared import Shared
+with Shared(open_log("sqlite:" + sys.argv[1])) as shared:
+    print(shared.sync(), ",".join(shared.branches()), ",".join(shared.names("main")), shared.record("main", "more", [Add("more")]))
+"""
 PARTS = ("c", "memory", "sanitized", "rust", "python")
 
 
@@ -19,7 +28,7 @@ def run(report, words):
 def c_programs(clients, flags=()):
     """The example, the tests and the conversations of examples/, with these flags of the compiler."""
     clients.writes("clients/c/example.stdout", [clients.compile("example", flags)])
-    for name in ("handles", "threads"):
+    for name in ("handles", "members", "threads"):
         clients.runs(name, [clients.compile(f"tests/{name}", flags)])
     talk = clients.compile("tests/talk", flags)
     for name in ("conflicts", "questions", "shell"):
@@ -49,15 +58,26 @@ def rust(clients):
     if not clients.has("cargo"):
         return
     manifest = ["--offline", "--quiet", "--manifest-path", "clients/rust/Cargo.toml"]
-    clients.runs("cargo test", ["cargo", "test", *manifest])
-    clients.runs("cargo build", ["cargo", "build", "--examples", *manifest])
+    features = ["--features", "sqlite"] if clients.has_sqlite() else []
+    clients.runs("cargo test", ["cargo", "test", *features, *manifest])
+    clients.runs("cargo build", ["cargo", "build", "--examples", *features, *manifest])
     for it in ("start", "conflict"):
         clients.writes(f"clients/rust/examples/{it}.stdout", [f"{clients.folder}/target/debug/examples/{it}"])
+    if features:
+        rust_and_python(clients)
     if clients.succeeds(["cargo", "+nightly", "--version"]):
         target = ["--tests", "--target", "x86_64-unknown-linux-gnu"]
         clients.runs("cargo test under AddressSanitizer", ["cargo", "+nightly", "test", *target, *manifest], RUSTFLAGS="-Zsanitizer=address")
     else:
         clients.report.skip("AddressSanitizer for Rust")
+
+
+def rust_and_python(clients):
+    """Members in Rust and one in Python share a history over a SQLite file."""
+    path = f"{clients.folder}/shared.db"
+    clients.writes("clients/rust/examples/shared.stdout", [f"{clients.folder}/target/debug/examples/shared", path])
+    found = clients.runs("a member in Python", ["python3", "-c", PEER, path], PYTHONPATH="clients/python")
+    clients.report.expect("what a member in Python reads", found, b"5 main,other start,first,second 6\n")
 
 
 def python(clients):

@@ -20,7 +20,7 @@ from tests.harness.paths import TOP, read, read_text
 SECONDS, GATE = 30, "after"
 PROGRAMS = ("camp", "camp_shell")
 # Pages with a C program, and what it prints.
-PAGES = {"docs/embedding.md": b"ok 1\nok 2\ntree 1\nfile notes 1\n=hello\n", "clients/c/README.md": b"ok 1\nnames 1\nstart\n"}
+PAGES = {"docs/embedding.md": b"ok 1\nok 2\ntree 1\nfile notes 1\n=hello\n"}
 # What is to be completed, and how.
 COMPLETED = {"--st": "--store", "--store no": "notes", "--store a": "a store", "--export x": "", "--l": "--load\n--limits"}
 PYTHON = """

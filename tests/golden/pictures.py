@@ -13,8 +13,9 @@ from tests.harness import programs
 from tests.harness.paths import DATA, TOP, read_text, write_text
 
 SECONDS, GATE = 10, "after camp_shell"
-# The width and height in points that the picture of a history of so many patches has at most.
-SIZES = {5: (500, 400), 30: (900, 1100), 200: (3300, 1400), 1000: (1900, 1300)}
+# The width and height in points that the picture of a history of so many patches has at most, and that of many small parts.
+SIZES = {5: (500, 400), 30: (900, 700), 200: (3300, 1400), 1000: (1900, 1300)}
+PARTS = (1300, 1100)
 SCRIPT = """record main start group
 add menu
 edit menu 1
@@ -90,6 +91,14 @@ def history(count):
     return Answers(needs, paths, pairs, pairs[::2])
 
 
+def parts():
+    """200 patches of 40 files: of each file five, two of which need the first one, and each time two of two files are in conflict."""
+    names = [f"p{at}" for at in range(200)]
+    needs = {name: [names[at // 5 * 5]] if at % 5 in (1, 2) else [] for at, name in enumerate(names)}
+    pairs = [(names[at], names[at + 1]) for at in range(4, 200, 10)]
+    return Answers(needs, {name: f"src/file{at // 5}" for at, name in enumerate(names)}, pairs, pairs)
+
+
 def great():
     """1,000 patches of 20 files: 50 conflicts of two, one of which is unresolved, and one of 20."""
     names = [f"p{at}" for at in range(1000)]
@@ -118,6 +127,7 @@ def run(report, words):
     with tempfile.TemporaryDirectory(prefix="pictures-") as folder:
         for count, size in SIZES.items():
             drawn(report, f"history of {count}", picture(history(count).ask, "main"), folder, size)
+        drawn(report, "parts", picture(parts().ask, "main"), folder, PARTS)
         of_fan(report, picture(fan().ask, "main"), folder)
         of_great(report, picture(great().ask, "main"), folder)
         only_open = picture(great().ask, "main", (), True)

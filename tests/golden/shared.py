@@ -44,6 +44,7 @@ def run(report, words):
             report.count("lines of two terminals", text.count("\n"))
         page_is_short(report)
         over_sqlite(report, environment, folder)
+        from_a_file(report, environment, folder)
         wrong_addresses(report, environment, folder)
         with etcd.servers(report, folder) as endpoints:
             if endpoints:
@@ -81,7 +82,7 @@ def locked(report, environment, folder):
     with sqlite3.connect(f"{folder}/notes.db", isolation_level=None) as base:
         base.execute("BEGIN IMMEDIATE")
         # It is held for longer than that is waited for.
-        peer = programs.start([*CAMP, "shell", "--log", "sqlite:notes.db"], env={**environment, "CAMP_PATIENCE": "5"}, cwd=folder)
+        peer = programs.start([*CAMP, "shell", "--log", "sqlite:notes.db"], env={**environment, "CAMP_PATIENCE": "15"}, cwd=folder)
         programs.send(peer, b"record main late add late\n")
         said = peer.stdout.readline()
         base.execute("ROLLBACK")
@@ -89,6 +90,24 @@ def locked(report, environment, folder):
     out, error = peer.communicate(b"names main\nbranches\n", timeout=programs.TIMEOUT)
     report.expect("what it says then", (error, out.split(b"branches")[0]), (b"", LATE))
     report.count("logs that are held")
+
+
+def from_a_file(report, environment, folder):
+    """What was read of a log is kept in a file, from which a member starts: it reads the log from there on. A file of another log is
+    refused."""
+    log, kept = "sqlite:started.db", ("--kept", "started.kept")
+    first = ask(environment, folder, log, b"record main one add one\nrecord main two add two\n", *kept)
+    report.expect_run("a log that is kept", first, b"ok 1\nok 2\n")
+    report.expect_run("another member", ask(environment, folder, log, b"record main three add three\n"), b"ok 3\n")
+    with sqlite3.connect(f"{folder}/started.db") as base:
+        base.execute("UPDATE entries SET text = ? WHERE at = 1", (b"something else\n",))
+    later = ask(environment, folder, log, b"names main\nrecord main four add four\n", *kept)
+    report.expect_run("a member that starts from the file", later, b"names 3\none\ntwo\nthree\nok 4\n")
+    without = ask(environment, folder, log, b"names main\n")
+    report.expect("a member that reads all of it", (without.returncode, b"at entry 1 of the log" in without.stderr), (3, True))
+    other = ask(environment, folder, "sqlite:notes.db", b"names main\n", *kept)
+    report.expect("a file of another log", (other.returncode, b"another one than that which was read before" in other.stderr), (3, True))
+    report.count("members that start from a file", 3)
 
 
 def wrong_addresses(report, environment, folder):

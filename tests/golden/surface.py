@@ -1,10 +1,10 @@
-"""The crates hand out the calls that were settled before they were written, but for the differences that DECISIONS.md names.
+"""The crates hand out the calls that were settled before they were written, but for the differences that are named.
 
 The file surface of tests/data has those calls. Read from the sources are the functions that a crate's lib.rt hands out, the
 methods of the types that it hands out, and those of its traits. Left out are laws, which take nothing and answer nothing, and
 what a trait of the standard library asks for. A difference is a call that is missing, one with other types, or one beyond
-those that were settled. Each has to be named in docs/DECISIONS.md, in the section `Public surface`, between backticks, and
-nothing else may be named there.
+those that were settled. Each has to be named: in docs/DECISIONS.md, in the section `Public surface`, between backticks, or,
+if it is a call beyond them, in the file added_calls of tests/data. Nothing else may be named there.
 
 Words: all prints each difference.
 """
@@ -16,6 +16,7 @@ from tests.harness.paths import DATA, TOP, read_text
 
 SECONDS, GATE = 1, "beside"
 SECTION = "## Public surface"
+BEYOND = "is beyond what was settled"
 # What a caller sees under another name, or does not see.
 LIFETIME = re.compile(r"'\w+\s*,?\s*")
 HIDDEN = [
@@ -149,24 +150,29 @@ def differences():
             elif found[name] != types:
                 yield name, f"{crates[0]}: {name}{found[name]}, settled as {types}"
         for name in sorted(set(found) - set(calls)):
-            yield name, f"{crates[0]}: {name}{found[name]} is beyond what was settled"
+            yield name, f"{crates[0]}: {name}{found[name]} {BEYOND}"
 
 
 def named():
-    """What the section of docs/DECISIONS.md names."""
+    """What the section of docs/DECISIONS.md names, but for files."""
     _, _, section = read_text(f"{TOP}/docs/DECISIONS.md").partition(f"\n{SECTION}\n")
     section = section.partition("\n## ")[0]
-    return set(re.findall(r"`([^`]+)`", re.sub(r"\([^()]*\)", "", section)))
+    return {it for it in re.findall(r"`([^`]+)`", re.sub(r"\([^()]*\)", "", section)) if "/" not in it}
+
+
+def added():
+    """The calls of the file added_calls."""
+    return {line for line in read_text(f"{DATA}/added_calls").splitlines() if line and line[0] not in "#="}
 
 
 def run(report, words):
-    found, known = dict(differences()), named()
+    found, changed, beyond = dict(differences()), named(), added()
     for name, text in found.items():
         if "all" in words:
             report.note(text)
-        if name not in known:
-            report.fail(f"docs/DECISIONS.md does not name {name}: {text}")
-    for name in sorted(known - set(found)):
-        report.fail(f"docs/DECISIONS.md names {name}, which is no difference")
+        if name not in changed | (beyond if text.endswith(BEYOND) else set()):
+            report.fail(f"neither docs/DECISIONS.md nor tests/data/added_calls names {name}: {text}")
+    for name in sorted((changed | beyond) - set(found)):
+        report.fail(f"{name} is named, and is no difference")
     report.count("calls settled", sum(len(calls) for _, calls in settled()))
     report.count("differences", len(found))

@@ -36,8 +36,8 @@ def environment_of(folder, shell):
 
 def interrupted(report, environment, folder):
     """Ctrl-C while an answer is awaited is noted, and the second one ends with words about what is lost."""
-    # A program that gets the first 60 bytes of what it is sent, and then waits for the rest of a request.
-    write_text(f"{folder}/stuck", '#!/bin/bash\n(dd bs=1 count=60 2>/dev/null; exec sleep 60) | camp_shell "$@"\n')
+    # A program that gets the first 60 bytes of what it is sent, and then waits for the rest of a request until no more is sent.
+    write_text(f"{folder}/stuck", '#!/bin/bash\n(dd bs=1 count=60 2>/dev/null; cat >/dev/null; :) | camp_shell "$@"\n')
     os.chmod(f"{folder}/stuck", 0o755)
     terminal = Terminal("CAMP_SHELL=./stuck exec python3 -m camp shell", environment, folder)
     terminal.read_until(is_prompt)

@@ -10,7 +10,6 @@ import base64
 import contextlib
 import itertools
 import json
-import os
 import re
 import sys
 import tempfile

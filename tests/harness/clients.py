@@ -85,12 +85,19 @@ class Clients:
         return True
 
     def has_sanitizer(self):
+        return self.compiles("AddressSanitizer", "int main(void) { return 0; }\n", "-fsanitize=address")
+
+    def has_sqlite(self):
+        return self.compiles("SQLite's C library (libsqlite3-dev)", "#include <sqlite3.h>\nint main(void) { return !sqlite3_libversion(); }\n", "-lsqlite3")
+
+    def compiles(self, what, text, flag):
+        """Whether a program of C is compiled with a flag; else it says that this machine lacks it."""
         source = f"{self.folder}/main.c"
         with open(source, "w", encoding="ascii") as file:
-            file.write("int main(void) { return 0; }\n")
-        if self.succeeds(["cc", "-fsanitize=address", source, "-o", f"{self.folder}/main"]):
+            file.write(text)
+        if self.succeeds(["cc", source, flag, "-o", f"{self.folder}/main"]):
             return True
-        self.report.skip("AddressSanitizer")
+        self.report.skip(what)
         return False
 
     def runs(self, what, words, given=None, **environment):

@@ -31,16 +31,19 @@ def below(name, uses):
     return found
 
 
+def copy_crates(names, folder, more=""):
+    """Copies crates into a repository of their own, whose crates.txt has some lines more."""
+    write_text(f"{folder}/crates.txt", "".join(f"{it}: {' '.join(uses)}\n" for it, uses in uses_of().items() if it in names) + more)
+    for it in names:
+        shutil.copytree(f"{TOP}/crates/{it}", f"{folder}/crates/{it}", ignore=shutil.ignore_patterns("out", "planted*", "must-fail"))
+
+
 def lay_out(page, folder):
     """Lays the crate whose files a page shows out in a folder, with the crates that it stands on. Returns its name, and its output."""
     files = {file: text for file, text in BLOCK.findall(read_text(page))}
     own, wanted = files.pop("crates.txt"), files.pop("stdout", "")
     name = own.partition(":")[0]
-    lines = uses_of()
-    taken = below(name, {**lines, **lines_of_crates(own)})
-    write_text(f"{folder}/crates.txt", "".join(f"{it}: {' '.join(lines[it])}\n" for it in lines if it in taken) + own)
-    for crate in taken:
-        shutil.copytree(f"{TOP}/crates/{crate}", f"{folder}/crates/{crate}", ignore=shutil.ignore_patterns("out", "planted*", "must-fail"))
+    copy_crates(below(name, {**uses_of(), **lines_of_crates(own)}), folder, own)
     for file, text in {"stdin": "", **files, "stdout": wanted}.items():
         path = f"{folder}/crates/{name}/{file}"
         os.makedirs(os.path.dirname(path), exist_ok=True)

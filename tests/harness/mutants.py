@@ -20,8 +20,6 @@ IMPL = re.compile(r"impl(?:<.*?>)? (\w+)(?:<.*>)? {$")
 def mutants_of(crate, is_all):
     """The mutants of a crate's folder by name: those of must-fail/, and if `is_all` the planted ones; each its name and text."""
     found = [(os.path.basename(it)[: -len(".edit")], read_text(it)) for it in glob.glob(f"{crate}/must-fail/*.edit")]
-    if is_all:
-        found += [(os.path.basename(it)[: -len(".edit")], read_text(it)) for it in glob.glob(f"{crate}/planted/*.edit")]
     if is_all and os.path.exists(f"{crate}/planted.edits"):
         found += [tuple(it.split("\n", 1)) for it in re.split(r"^edit: ", read_text(f"{crate}/planted.edits"), flags=re.M)[1:]]
     return sorted(found)

@@ -1,6 +1,7 @@
 """Starts programs: which file is run, with what limits, and how a peer talks to it."""
 
 import contextlib
+import math
 import os
 import resource
 import signal
@@ -11,6 +12,8 @@ from tests.harness.paths import TOP
 
 # Seconds after which a program counts as hanging. A machine with other work is slow, so this is no measurement.
 TIMEOUT = 1800
+# How often processor seconds are measured before a program counts as slow.
+TRIES = 5
 # How many programs run at once.
 JOBS = int(os.environ.get("JOBS", 0)) or len(os.sched_getaffinity(0))
 
@@ -67,6 +70,18 @@ def used_seconds():
     """Seconds of a processor that all programs took that were started here and have ended."""
     used = resource.getrusage(resource.RUSAGE_CHILDREN)
     return used.ru_utime + used.ru_stime
+
+
+def is_in_proportion(measure, small, large):
+    """Whether a large size takes at most twice as long as a small one, for each unit of size; `measure` returns the processor seconds that a
+    size takes. A busy machine makes some measures longer and none shorter, so the least of several counts before a size is too slow."""
+    least = {}
+    for _ in range(TRIES):
+        for size in (small, large):
+            least[size] = min(measure(size), least.get(size, math.inf))
+        if least[large] <= 2 * least[small] * large / small:
+            return True
+    return False
 
 
 def end(process):

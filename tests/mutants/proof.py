@@ -1,7 +1,8 @@
 """The prover refuses each mutant of a crate: a wrong body of must-fail/ or planted.edits (its contract is strong enough).
 
-Words: none: all mutants, over the libraries that `rt ci` kept; CRATE or CRATE/NAME ..: those of the crate, or those whose names begin
-so; --over TREE: those of must-fail/, over the libraries that `rt ci` has built in TREE, as the gate does.
+Words: none: all mutants; CRATE or CRATE/NAME ..: those of the crate, or those whose names begin so. The crate is checked first, as `rt check`
+does, and each mutant over what that has kept: seconds, once the crate is proved. --over TREE: those of must-fail/, over the libraries that
+`rt ci` has built in TREE, as the gate does.
 
 The prover judges each function alone, so mutants of functions of different names stand in one copy, of which only these functions
 are checked, with those that they call. Where one that it calls is refused, a function is not judged, so what is not judged is tried
@@ -19,7 +20,7 @@ from collections import Counter
 from concurrent.futures import ThreadPoolExecutor
 
 from tests.harness import programs
-from tests.harness.checks import tree_below, words_over
+from tests.harness.checks import check_in_place, words_over
 from tests.harness.crates import uses_of
 from tests.harness.folders import temporary
 from tests.harness.mutants import Mutant, functions_in, mutants_of, sources
@@ -50,10 +51,15 @@ def run(report, words):
 
 
 def try_crate(report, name, mutants, tree):
-    """Tries the mutants of a crate in a copy of it, over the tree's libraries, or over those that are kept."""
+    """Tries the mutants of a crate in a copy of it, over the tree's libraries, or over what a check of the crate has kept."""
+    printed = "" if tree else check_in_place(name)
+    if not tree and "logic=proved" not in printed:
+        return report.fail(f"{name} is not proved as it stands: {printed[-2000:]}")
     with temporary("mutants-") as folder:
         shutil.copytree(f"{TOP}/crates/{name}", f"{folder}/{name}", ignore=shutil.ignore_patterns("out", "planted*"))
-        words = [*words_over(name, tree or tree_below(name)), "--jobs", "1", "--incremental", "kept"]
+        if not tree:
+            shutil.copytree(f"{TOP}/crates/{name}/out/incremental", f"{folder}/{name}/kept")
+        words = [*words_over(name, tree or TOP), "--jobs", "1", "--incremental", "kept"]
         check = Check(f"{folder}/{name}", words)
         Trial(report, check, [Mutant(*it, check.crate) for it in mutants]).try_all()
 

@@ -1,4 +1,4 @@
-"""The program: a command server runs the command where there is one, else this process does, which then imports what it needs."""
+"""The program. A command server runs the command if there is one; otherwise this process does, and imports what it needs only then."""
 
 from __future__ import annotations
 
@@ -9,15 +9,14 @@ signal.signal(signal.SIGINT, signal.SIG_DFL)  # Until `main` begins Ctrl-C ends 
 import os
 import sys
 import time
-from typing import List, Optional
 
 from .client import ask_server
 
-# Seconds of processor time from which on a command that has loaded a repository leaves a server behind.
+# A command that has loaded a repository and took this many seconds of processor time starts a server.
 SLOW = 0.6
 
 
-def main(words: Optional[List[str]] = None) -> int:
+def main(words: list[str] | None = None) -> int:
     """Runs a command, and returns its exit status."""
     words = sys.argv[1:] if words is None else words
     status = ask_server(words)
@@ -27,8 +26,8 @@ def main(words: Optional[List[str]] = None) -> int:
         copy = sys.modules.get("campvc.copy")
         is_wanted = os.environ.get("CAMPVC_SERVER", str(int(time.process_time() > SLOW))) == "1"
         if copy and copy.LOADED and is_wanted:
-            from .server import start
-            start()
+            from .server import leave
+            leave()
     return status
 
 

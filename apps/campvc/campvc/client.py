@@ -1,14 +1,16 @@
-"""Asks the command server of a working copy, where there is one: see `server`. This module is imported first, so it imports little."""
+"""Hands a command to the command server of a working copy, if there is one: see `server`. It is imported first, so it imports little,
+and no `typing`."""
 
 from __future__ import annotations
 
-import contextlib
+import io
 import os
 import signal
 import sys
-from typing import Any, List
 
-# Commands that a server does not run: they begin with another repository, or do not end.
+# Seconds that a server, which may be at another command, has to answer; and what tells it that its caller still waits then.
+PATIENCE, GO = 1.0, b"+"
+# Commands that a server does not run: they are about another repository, or run until Ctrl-C.
 OTHERS = ("init", "clone", "web")
 
 
@@ -17,7 +19,7 @@ def is_off() -> bool:
 
 
 def find_socket() -> str | None:
-    """The socket of the working copy in which this process stands."""
+    """Returns the path of the server's socket, if the current folder is in a working copy with a server."""
     folder = os.getcwd()
     while not os.path.isdir(os.path.join(folder, ".camp")):
         if folder == os.path.dirname(folder):
@@ -27,14 +29,14 @@ def find_socket() -> str | None:
     return path if os.path.exists(path) else None
 
 
-def identity() -> List[Any]:
-    """What says that two processes run the same program: a change of a file changes the time of its folder."""
+def identity() -> list:
+    """Identifies the program: processes with equal values run the same one. A file that is replaced changes the time of its folder."""
     own = os.path.dirname(os.path.abspath(__file__))
     return [sys.version, own, os.stat(own).st_mtime_ns, os.environ.get("CAMP_LIB_DIR", "")]
 
 
-def ask_server(words: List[str]) -> int | None:
-    """The exit status of a command that a server has run; None where none does."""
+def ask_server(words: list[str]) -> int | None:
+    """Has the server run a command and returns its exit status; None if no server runs it."""
     try:
         path = None if is_off() or words[:1] in [[it] for it in OTHERS] else find_socket()
     except OSError:
@@ -45,26 +47,34 @@ def ask_server(words: List[str]) -> int | None:
     import socket
     with socket.socket(socket.AF_UNIX) as connection, connection.makefile("r") as answers:
         try:
+            connection.settimeout(PATIENCE)
             connection.connect(path)
             os.umask(mask := os.umask(0))
             text = marshal.dumps([identity(), words, os.getcwd(), mask, dict(os.environ), sys.stdout.encoding, sys.stdout.errors])
             socket.send_fds(connection, [b"%9d" % len(text)], [0, 1, 2])
             connection.sendall(text)
-            child = int(answers.readline())
+            process = int(answers.readline())
+            connection.settimeout(None)
+            connection.sendall(GO)
         except (OSError, ValueError, AttributeError):
             return None
-        return follow(child, answers)
+        return follow(process, answers)
 
 
-def follow(child: int, answers: Any) -> int:
-    """Hands signals on to a child until it says its exit status."""
-    def hand_on(number: int, _: Any) -> None:
-        with contextlib.suppress(OSError):
-            os.kill(child, number)
+def follow(process: int, answers: io.TextIOWrapper) -> int:
+    """Forwards signals to the process that runs the command, and returns its exit status."""
+    sent: list[int] = []
+
+    def hand_on(number: int, _: object) -> None:
+        sent.append(number)
+        try:
+            os.kill(process, number)
+        except OSError:
+            pass
 
     for number in (signal.SIGINT, signal.SIGTERM, signal.SIGHUP):
         signal.signal(number, hand_on)
     status = answers.readline()
     if not status:
         print("campvc: the command was ended: `campvc status` shows where you are", file=sys.stderr)
-    return int(status or 137)
+    return int(status or 128 + (sent or [signal.SIGKILL])[-1])

@@ -6,11 +6,11 @@ import argparse
 import contextlib
 import os
 import shutil
-from typing import Collection, List, Optional
+from typing import Collection, List, Optional, Tuple
 
-from camp import Change, NoBranch, sides
+from camp import Change, Conflict, Depends, NoMerge, sides
 from camp.changes import command, record_command
-from camp.coding import decode, encode_path, file_changes, file_name
+from camp.coding import Files, decode, encode_path, file_changes, file_name
 from camp.diffs import in_patches
 from camp.notes import Note, patch_name, slug
 from camp.worktree import changed, text
@@ -66,14 +66,14 @@ def clone(words: Words) -> int:
 
 
 def clone_address(folder: str) -> str:
-    """The log of the working copy in a folder."""
+    """Returns the address of the log of the working copy in a folder."""
     if not os.path.isdir(os.path.join(folder, ".camp")):
-        raise Failure("{} is no address of a log (sqlite:PATH, etcd:HOST:PORT/PREFIX) and no campvc repository".format(folder), 128)
+        raise Failure("{} is no address of a log (sqlite:PATH, etcd:HOST:PORT/PREFIX, postgres:DSN) and no campvc repository".format(folder), 128)
     return State(os.fsencode(os.path.abspath(folder))).get("log")
 
 
 def absolute(address: str) -> str:
-    """An address of which a path is absolute."""
+    """Returns an address whose path, if it has one, is absolute."""
     kind, _, path = (address or "").partition(":")
     return "sqlite:" + os.path.abspath(path) if kind == "sqlite" and path else address
 
@@ -103,14 +103,12 @@ def status(words: Words) -> int:
 
 
 def chosen(copy: Copy, paths: List[str], found: List[bytes], known: Collection[bytes]) -> List[bytes]:
-    """Those of some files that stand at or below some paths, or all; a path has to be one of what is known."""
+    """Selects the files at or below some paths, or all if there are none. A path that names no known file is a `Failure`."""
     if not paths:
         return found
     some: List[bytes] = []
     for path in paths:
-        place = os.path.relpath(os.path.abspath(os.fsencode(path)), copy.top)
-        if place.startswith(b".."):
-            raise Failure("{} is outside of the repository".format(path), 128)
+        place = copy.place(path)
         below = [it for it in found if place == b"." or it == place or it.startswith(place + b"/")]
         if not below and not any(it == place or it.startswith(place + b"/") for it in known) and place != b".":
             raise Failure("{}: there is no such file here, and none was recorded".format(path))
@@ -143,10 +141,10 @@ def record(words: Words) -> int:
             emit("nothing to record")
             return 1
         message = words.message if words.message is not None else show.ask("What is it for? ")
-        before = set(copy.repository.open(copy.own))
+        before = set(sides.open_pairs(copy.repository, copy.own))
         record_changes(copy, in_patches(changes), new_note(message, copy.state.get("author")), paths)
         remember_marked(copy, [path for path in marked if path not in paths])
-        for pair in sorted(before - set(copy.repository.open(copy.own))):
+        for pair in sorted(before.difference(sides.open_pairs(copy.repository, copy.own) if before else [])):
             emit("resolves the conflict of {} and {}".format(*pair))
     return 0
 
@@ -155,17 +153,15 @@ def record_changes(copy: Copy, parts: List[List[Change]], note: Note, paths: Lis
     """Records patches of these files, and publishes them."""
     name = patch_name(note, [it for part in parts for it in part], copy.name)
     names = ["{}-{}".format(name, at + 1) for at in range(len(parts) - 1)] + [name]
-    others = set(copy.repository.open(copy.branch))
-    copy.record([(record_command(copy.own, one, part), note.text()) for one, part in zip(names, parts)], paths)
-    copy.publish(names)
+    copy.record([(record_command(copy.own, one, part), note.text()) for one, part in zip(names, parts)], paths, names)
     emit("recorded {}{}".format(name, " in {} patches".format(len(names)) if len(names) > 1 else ""))
-    if any(set(pair) & set(names) for pair in set(copy.repository.open(copy.branch)) - others):
+    if any(set(pair) & set(names) for pair in sides.open_pairs(copy.repository, copy.branch)):
         emit("in {} it is in conflict with what others recorded: `campvc sync` takes that over".format(copy.branch))
 
 
 def log(words: Words) -> int:
     with reading() as copy:
-        (show.print_graph if words.graph else show.print_log)(copy, words.branch or copy.own)
+        (show.print_graph if words.graph else show.print_log)(copy, copy.branch_of(words.branch))
     return 0
 
 
@@ -174,8 +170,12 @@ def show_command(words: Words) -> int:
         name = copy.name_of(words.patch)
         state = show.states_of(copy, copy.own).get(name, "")
         show.print_patch(copy, name, state)
-        for title, names in (("needs", copy.repository.needs(copy.own, [name])), ("holds", copy.repository.held(copy.own, [name]))):
-            emit("{:7} {}".format(title, ", ".join(it for it in names if it != name) or "no other patch"))
+        count = len(copy.repository.names(copy.own))
+        if count <= show.MOST_WITH_GRAPH or words.needs:
+            show.print_others("needs", copy.repository.needs(copy.own, [name]), name)
+            show.print_others("holds", copy.repository.held(copy.own, [name]), name)
+        else:
+            emit("`campvc show --needs` looks up what it needs and holds: among {} patches that may take minutes".format(count))
         emit("\nits side, as changes of what is there now:" if state else "")
         show.print_changes(copy.repository.side(copy.own, name) if state else copy.repository.show(copy.own, name).changes)
     return 0
@@ -183,8 +183,8 @@ def show_command(words: Words) -> int:
 
 def annotate(words: Words) -> int:
     with reading() as copy:
-        path = os.path.relpath(os.path.abspath(os.fsencode(words.path)), copy.top)
-        lines = copy.repository.annotate(copy.own, encode_path(path))
+        path = copy.place(words.path)
+        lines = None if path == b"." else copy.repository.annotate(copy.own, encode_path(path))
         if lines is None:
             raise Failure("{}: there is no such file in {}".format(words.path, copy.branch))
         width = max([len(line.name) for line in lines] or [0])
@@ -199,7 +199,7 @@ def branches(words: Words) -> int:
     with reading() as copy:
         for name in copy.repository.branches():
             if words.all or "--" not in name:
-                count, pairs = len(copy.repository.names(name)), len(copy.repository.open(name))
+                count, pairs = len(copy.repository.names(name)), len(sides.open_pairs(copy.repository, name))
                 more = ", " + counted(pairs, "unresolved conflict") if pairs else ""
                 emit("{} {}  {}{}".format("*" if name == copy.branch else " ", name, counted(count, "patch"), more))
     return 0
@@ -209,16 +209,14 @@ def branch(words: Words) -> int:
     with writing() as copy:
         if slug(words.name, 38 - len(copy.name)) != words.name:
             raise Failure("{} is no name of a branch: take up to {} of a to z, 0 to 9 and `-`".format(words.name, 38 - len(copy.name)))
-        copy.ask("branch", words.name, copy.own)
+        copy.ask_all([(command("branch", words.name, copy.own), b"")])
         emit("branch {} is as {} is here; `campvc switch {}` works on it".format(words.name, copy.branch, words.name))
     return 0
 
 
 def switch(words: Words) -> int:
     with writing() as copy:
-        own = copy.own_of(words.name)
-        if words.name not in copy.repository.branches():
-            raise NoBranch(words.name)
+        own = copy.own_of(copy.branch_of(words.name))
         copy.check_clean("switch")
         is_new = own not in copy.repository.branches()
         calls = [(command("branch", own, words.name), b"")] if is_new else []
@@ -230,19 +228,20 @@ def switch(words: Words) -> int:
 
 
 def take(copy: Copy, branch: str, names: List[str], yes: bool, publish: bool = True) -> int:
-    """Pulls patches into this copy, with all that they need; says which, and what is in conflict then."""
-    listed = copy.along(branch, copy.own, names)
+    """Pulls patches and all that they need into this copy; prints them, and the conflicts that this makes."""
+    listed, found = [name for name in copy.repository.missing(branch, copy.own) if name in names], None
+    try:
+        found = after_pull(copy, branch, listed)
+    except (Depends, NoMerge):
+        listed = copy.along(branch, copy.own, names)
     more = [name for name in listed if name not in names]
     emit("from {}:".format(branch))
     show.print_names(copy, listed)
     if more and not show.agreed("{} of these come along, since the others need them. Pull all?".format(len(more)), yes):
         raise Failure("nothing is pulled")
-    before = copy.unresolved()
-    outcome = copy.repository.whatif.pull(branch, copy.own, listed)
-    copy.bring([(command("pull", branch, copy.own, *listed), b"")], decode(outcome.tree))
-    if publish:
-        copy.publish(listed)
-    new = [(path, pair) for path, pairs in copy.unresolved().items() for pair in pairs if pair not in before.get(path, [])]
+    files, opened = found or after_pull(copy, branch, listed)
+    copy.bring([(command("pull", branch, copy.own, *listed), b"")], files, names=listed if publish else ())
+    new = [(path, pair) for path, pairs in (copy.unresolved() if opened else {}).items() for pair in pairs if pair in opened]
     for path, pair in new:
         emit("conflict in {}: {} and {}".format(text(path), *pair), show.RED)
     if new:
@@ -250,10 +249,25 @@ def take(copy: Copy, branch: str, names: List[str], yes: bool, publish: bool = T
     return 1 if new else 0
 
 
+def after_pull(copy: Copy, branch: str, names: List[str]) -> Tuple[Files, List[Conflict]]:
+    """Returns the files after a pull, and the conflicts that it makes. Patches that are in conflict on neither side change the files that
+    they name, and no others."""
+    what_if, there = copy.repository.whatif, {name for pair in copy.repository.conflicts(branch) for name in pair}
+    if not there & set(names):
+        changed_paths = {change.path for name in names for change in copy.repository.show(branch, name).changes}
+        paths = {file_name(path) for path in changed_paths}
+        outcome = what_if.pull(branch, copy.own, names, paths=changed_paths | copy.own_tree(list(paths)).keys())
+        if not any(name in pair for pair in [*outcome.conflicts, *outcome.opened, *outcome.resolved] for name in names):
+            others = {path: file for path, file in copy.state.base().items() if path not in paths}
+            return {**others, **decode(outcome.tree)}, outcome.opened
+    outcome = what_if.pull(branch, copy.own, names)
+    return decode(outcome.tree), outcome.opened
+
+
 def pull(words: Words) -> int:
     with writing() as copy:
         copy.check_clean("pull")
-        missing = copy.repository.missing(words.branch, copy.own)
+        missing = copy.repository.missing(copy.branch_of(words.branch), copy.own)
         names = [copy.name_of(it, words.branch) for it in words.patches] or missing
         if not set(names) & set(missing):
             emit("nothing to pull: all of it is here")
@@ -278,16 +292,9 @@ def sync(words: Words) -> int:
     return 1 if copy.away else status
 
 
-def obliterate(words: Words) -> int:
-    return take_out(words, words.patches, False)
-
-
-def unrecord(words: Words) -> int:
-    return take_out(words, words.patches, True)
-
-
-def take_out(words: Words, patches: List[str], keeps_files: bool) -> int:
-    """Takes patches out of the branch, with all that needs them; the files lose their changes, or keep them as not recorded."""
+def take_out(words: Words) -> int:
+    """Removes patches and all that needs them from the branch; the files lose their changes, or keep them as unrecorded ones."""
+    patches, keeps_files = words.patches, words.command == "unrecord"
     with writing() as copy:
         if not keeps_files:
             copy.check_clean("obliterate")
@@ -295,7 +302,7 @@ def take_out(words: Words, patches: List[str], keeps_files: bool) -> int:
         if not names:
             raise Failure("there is no patch to take out")
         held = copy.repository.held(copy.own, names)
-        there = [name for name in held if name in copy.repository.names(copy.branch)]
+        there = sorted(set(copy.repository.names(copy.branch)).intersection(held), key=held.index)
         others = [name for name in copy.repository.held(copy.branch, there) if name not in held]
         if others:
             problem = "in {} patches of others need this: {}; `campvc sync`, and name them too"

@@ -1,52 +1,39 @@
-"""Conflicts in the working tree: marks with the sides' names, or what is taken of one side."""
+"""Conflicts in the working tree: files with marks that name the sides, or with the lines of one side."""
 
 from __future__ import annotations
 
 import argparse
-import os
 from typing import List
 
 from camp import Hunk, sides
-from camp.coding import PLAIN, File, Files, encode_path
+from camp.coding import LINK, PLAIN, File, Files, encode_path
 from camp.worktree import Update, text
 
 from . import Failure, show
 from .copy import Copy, reading, writing
 from .show import counted, emit
 
-START, SIDE, END = b"<<<<<<< ", b"======= ", b">>>>>>> "
 
-
-def marked(copy: Copy, hunks: sides.Hunks) -> List[bytes]:
-    """The lines of a file with marks: what stands there now, and each side with its name, author and title."""
-    lines: List[bytes] = []
-    for hunk in hunks:
-        if isinstance(hunk, bytes):
-            lines.append(hunk)
-            continue
-        lines += [START + b"as it is now", *hunk.lines]
-        for side in hunk.sides:
-            note = copy.note(side.name)
-            lines += [SIDE + "{} ({}: {})".format(side.name, note.who, note.title).encode("utf-8", "surrogateescape"), *side.lines]
-        lines.append(END + b"keep one of these, or write what is right, and take the marks out")
-    return lines
+def described(copy: Copy, name: str) -> str:
+    """Describes a side: its patch, with author and title."""
+    note = copy.note(name)
+    return "{} ({}: {})".format(name, note.who, note.title)
 
 
 def check_marks(path: bytes, content: bytes) -> None:
-    """A `Failure` where a file still has marks."""
-    for number, line in enumerate(content.split(b"\n"), 1):
-        if line.startswith((START, SIDE, END)):
-            raise Failure("{} still has marks of a conflict, at line {}: decide, take the marks out, and record again".format(
-                text(path), number))
+    """Raises a `Failure` if a file still has marks."""
+    line = sides.first_mark(content)
+    if line:
+        raise Failure("{} still has marks of a conflict, at line {}: decide, take the marks out, and record again".format(text(path), line))
 
 
 def marked_files(copy: Copy) -> List[bytes]:
-    """The files into which `resolve` wrote."""
+    """Returns the files that `resolve` wrote to, and that are not recorded since."""
     return [bytes.fromhex(it) for it in copy.state.get("marked").split()]
 
 
 def remember_marked(copy: Copy, paths: List[bytes]) -> None:
-    copy.state.set("marked", " ".join(path.hex() for path in sorted(set(paths))))
+    copy.state.update(marked=" ".join(path.hex() for path in sorted(set(paths))))
 
 
 def conflicts(words: argparse.Namespace) -> int:
@@ -66,7 +53,7 @@ def resolve(words: argparse.Namespace) -> int:
         files, base, found = copy.scan(), copy.state.base(), sides.unresolved(copy.repository, copy.own)
         name = words.take and copy.name_of(words.take)
         wanted = [path for path, pairs in sides.by_file(found).items() if not name or any(name in pair for pair in pairs)]
-        named = sorted({os.path.relpath(os.path.abspath(os.fsencode(path)), copy.top) for path in words.paths} or wanted)
+        named = sorted({copy.place(path) for path in words.paths} or wanted)
         for path in named:
             if path not in wanted:
                 raise Failure("{}: no conflict {}there is unresolved".format(text(path), "of {} ".format(name) if name else ""))
@@ -79,23 +66,26 @@ def resolve(words: argparse.Namespace) -> int:
                 after.update({path: side}) if side else after.pop(path, None)
             else:
                 write_marks(copy, path, found, after)
-        Update(copy.top, files, after).install()
-        remember_marked(copy, [*marked_files(copy), *named])
+        with Update(copy.top, files, after).installed():
+            remember_marked(copy, [*marked_files(copy), *named])
         done = "`campvc record` decides so" if name else "edit the files, and `campvc record` decides"
         emit(done if named else "nothing is in conflict")
     return 0 if named else 1
 
 
 def write_marks(copy: Copy, path: bytes, found: sides.Unresolved, files: Files) -> None:
-    """Puts the sides of a file in conflict into it."""
+    """Puts the sides of a conflict into its file, with marks."""
     place, shown = encode_path(path), text(path)
     if place not in found:
         emit("{}: the sides differ in its mode or its end: make it as it is to be, and record".format(shown))
         return
     hunks = sides.hunks(copy.repository, copy.own, place, found[place])
-    old = files.get(path, File(PLAIN, b""))
-    if not any(isinstance(hunk, Hunk) and hunk.sides for hunk in hunks) or b"\0" in old.content:
+    names = {name for pair in found[place] for name in pair}
+    old = [files[path]] if path in files else [sides.take_side(copy.repository, copy.own, path, name, found) for name in names]
+    has_no_lines = any(file and (file.mode == LINK or b"\0" in file.content) for file in old)
+    if has_no_lines or not any(isinstance(hunk, Hunk) and hunk.sides for hunk in hunks):
         emit("{}: no lines to compare: say `campvc resolve --take PATCH {}`, or record it as it is".format(shown, shown))
         return
-    files[path] = File(old.mode, b"".join(line + b"\n" for line in marked(copy, hunks)))
+    marked = sides.marked(hunks, lambda name: described(copy, name), "keep one of these, or write what is right, and take the marks out")
+    files[path] = File(files[path].mode if path in files else PLAIN, b"".join(line + b"\n" for line in marked))
     emit("{}: {}".format(shown, counted(sum(isinstance(hunk, Hunk) for hunk in hunks), "place")))

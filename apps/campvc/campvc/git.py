@@ -1,4 +1,4 @@
-"""The commands that take patches in from git, and out again."""
+"""The commands that import commits of git, and export patches to it."""
 
 from __future__ import annotations
 
@@ -16,7 +16,7 @@ from .show import emit
 
 def export(words: argparse.Namespace) -> int:
     with reading() as copy:
-        branch = words.branch or copy.branch
+        branch = copy.branch_of(words.branch or copy.branch)
         stream = io.BytesIO() if words.to else sys.stdout.buffer
         write_stream(copy.shared, copy.own if branch == copy.branch else branch, copy.shared.notes, branch, stream)
         if words.to:
@@ -33,7 +33,7 @@ def import_command(words: argparse.Namespace) -> int:
         commits, there, count = Commits(words.repository, words.commit), set(copy.shared.names(copy.own)), 0
         if not commits.notes.keys() & there and copy.shared.tree(copy.own):
             raise Failure("{} has files already: import into a branch without, as of a new repository".format(copy.branch))
-        copy.state.set("doing", UPDATE)
+        copy.state.update(doing=UPDATE)
         try:
             for calls in records(commits, copy.own, there):
                 copy.ask_all(calls)

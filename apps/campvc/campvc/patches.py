@@ -1,4 +1,4 @@
-"""What goes into a patch: the changes that somebody wants, asked for one by one, and the note of who made it, when and why."""
+"""What goes into a patch: the changes that the user chooses, and a note that says who made it, when and why."""
 
 from __future__ import annotations
 
@@ -17,21 +17,21 @@ QUESTION = "record this change? ({} of {}) [y, n, a: all that are left, d: done,
 
 
 def select(files: List[List[Change]]) -> List[List[Change]]:
-    """Those of the changes of each file that somebody wants. A file that is new or goes is asked for at once, else each hunk."""
+    """Asks which changes to record, and returns them for each file. A file that is added or removed is one question, else each hunk is one."""
     units = [[[it] for it in reversed(some)] if all(isinstance(it, Edit) for it in some) else [some] for some in files if some]
     answers = ask_for([unit for some in units for unit in some])
     return [[change for unit in reversed([it for it in some if next(answers)]) for change in unit] for some in units]
 
 
 def ask_for(units: List[List[Change]]) -> Iterator[bool]:
-    """Whether each unit is wanted."""
+    """Asks for each unit whether to record it."""
     rest = ""
     for number, unit in enumerate(units, 1):
         answer = rest
         if not rest:
             show.print_changes(unit)
         while answer not in ("y", "n", "a", "d"):
-            answer = show.ask(QUESTION.format(number, len(units))) or "q"
+            answer = show.ask(QUESTION.format(number, len(units))).lower() or "q"
             if answer == "q":
                 raise Failure("nothing is recorded")
         rest = {"a": "a", "d": "d"}.get(answer, "")
@@ -39,7 +39,7 @@ def ask_for(units: List[List[Change]]) -> Iterator[bool]:
 
 
 def new_note(message: str, author: str) -> Note:
-    """A note of now. CAMPVC_AUTHOR and CAMPVC_DATE say another author and time."""
+    """Makes a note with the time of now. CAMPVC_AUTHOR and CAMPVC_DATE set another author and time."""
     now = datetime.fromtimestamp(int(time.time()), timezone.utc).astimezone().isoformat()
     message = "\n".join(line.rstrip() for line in message.strip().split("\n"))
     if not message:
@@ -48,7 +48,7 @@ def new_note(message: str, author: str) -> Note:
 
 
 def default_author() -> str:
-    """The author that git knows, or the user of this machine."""
+    """Returns CAMPVC_AUTHOR, or the user of this machine."""
     if os.environ.get("CAMPVC_AUTHOR"):
         return os.environ["CAMPVC_AUTHOR"]
     try:

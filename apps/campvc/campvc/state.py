@@ -1,4 +1,4 @@
-"""What a working copy keeps beside its files, in `.camp/state.db`: the tree that its files were last brought to, and settings."""
+"""The state of a working copy, in `.camp/state.db`: settings, and the base, which is the tree that its files were last brought to."""
 
 from __future__ import annotations
 
@@ -7,10 +7,10 @@ import fcntl
 import os
 import sqlite3
 import time
-from typing import Iterator
+from typing import Dict, Iterator, Tuple
 
 from camp.coding import File, Files
-from camp.worktree import changed
+from camp.worktree import changed, text
 
 from . import Failure
 
@@ -19,6 +19,8 @@ CREATE TABLE IF NOT EXISTS settings (key TEXT PRIMARY KEY, value TEXT NOT NULL);
 CREATE TABLE IF NOT EXISTS base (path BLOB PRIMARY KEY, mode TEXT NOT NULL, content BLOB NOT NULL);
 """
 PATIENCE = 10.0
+# The base of a copy that this process has read, by the path of its state, after what names it there.
+KNOWN: Dict[bytes, Tuple[str, Files]] = {}
 
 
 class State:
@@ -27,7 +29,6 @@ class State:
     def __init__(self, top: bytes) -> None:
         self.path = os.path.join(top, b".camp", b"state.db")
         self.db = sqlite3.connect(os.fsdecode(self.path), timeout=PATIENCE, isolation_level="IMMEDIATE", check_same_thread=False)
-        self.db.execute("PRAGMA journal_mode = WAL")
         self.db.executescript(TABLES)
         self._base: Files | None = None
 
@@ -38,32 +39,39 @@ class State:
         row = self.db.execute("SELECT value FROM settings WHERE key = ?", (key,)).fetchone()
         return row[0] if row else default
 
-    def set(self, key: str, value: str) -> None:
-        self.update(**{key: value})
-
     def update(self, files: Files | None = None, **settings: str) -> None:
-        """Writes settings, and the files that the working tree was brought to; all of this or nothing."""
+        """Writes settings, and the base if files are given, in one transaction."""
+        base, name = ({}, "") if files is None else (self.base(), os.urandom(16).hex())
         with self.db:
-            self.db.executemany("INSERT OR REPLACE INTO settings VALUES (?, ?)", settings.items())
-            base = {} if files is None else self.base()
+            self.db.executemany("INSERT OR REPLACE INTO settings VALUES (?, ?)", {**settings, **({"base": name} if name else {})}.items())
             for path in changed(base, files or {}):
                 if files and path in files:
                     self.db.execute("INSERT OR REPLACE INTO base VALUES (?, ?, ?)", (path, *files[path]))
                 else:
                     self.db.execute("DELETE FROM base WHERE path = ?", (path,))
-        self._base = self._base if files is None else dict(files)
+        if files is not None:
+            self._base = dict(files)
+            KNOWN[self.path] = name, self._base
 
     def base(self) -> Files:
-        """The files that the working tree was last brought to."""
+        """Returns the files that the working tree was last brought to."""
         if self._base is None:
-            self._base = {row[0]: File(row[1], row[2]) for row in self.db.execute("SELECT path, mode, content FROM base")}
+            name, (known, self._base) = self.get("base"), KNOWN.get(self.path, ("", {}))
+            if not name or known != name:
+                self._base = {row[0]: File(row[1], row[2]) for row in self.db.execute("SELECT path, mode, content FROM base")}
+            KNOWN[self.path] = name, self._base
         return self._base
 
 
 @contextlib.contextmanager
 def locked(top: bytes) -> Iterator[None]:
-    """One command at a time changes a working copy; another one waits for a while."""
-    with open(os.path.join(top, b".camp", b"lock"), "a+", encoding="ascii") as file:
+    """Lets one command at a time change a working copy; another one waits for it, CAMPVC_PATIENCE seconds or 10."""
+    folder = os.path.join(top, b".camp")
+    written = [folder, *(os.path.join(folder, name) for name in (b"lock", b"state.db", b"seen.db"))]
+    if any(os.path.exists(path) and not os.access(path, os.W_OK) for path in written):
+        raise Failure("{} can't be written: `chmod -R u+w` it, or work in a copy of your own, which `campvc clone` makes; nothing has changed"
+                      .format(text(folder)), 128)
+    with open(os.path.join(folder, b"lock"), "a+", encoding="ascii") as file:
         end = time.monotonic() + float(os.environ.get("CAMPVC_PATIENCE", PATIENCE))
         while True:
             try:

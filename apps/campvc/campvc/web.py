@@ -1,7 +1,7 @@
 """The page: branches, patches with their graph, files with who wrote each line, conflicts side by side.
 
-It only reads, and serves loopback unless it is told otherwise, and then who has the token. Its HTML is made here, needs no script,
-and names nothing outside of this machine. What users wrote is escaped by jinja2, and what is not printable by `readable`."""
+It is read-only. It serves loopback; at another address it wants a token. Its HTML is made here, needs no script and loads nothing from
+other machines. jinja2 escapes what users wrote, and `readable` what is not printable."""
 
 from __future__ import annotations
 
@@ -28,8 +28,8 @@ from . import Failure, show
 from .copy import Copy, find_top
 
 LOOPBACK = ("127.0.0.1", "::1", "localhost")
-# Patches on a page, and those of a branch up to which its graph is asked for; lines around a conflict, and the width of a lane.
-PAGE, MOST_WITH_GRAPH, CONTEXT, LANE = 100, 250, 3, 14
+# Patches on a page; lines around a conflict; the width of a lane in pixels.
+PAGE, CONTEXT, LANE = 100, 3, 14
 HEADERS = {
     "Content-Security-Policy": "default-src 'none'; style-src 'self'; img-src data:; base-uri 'none'; form-action 'none'; "
                                "frame-ancestors 'none'",
@@ -39,13 +39,13 @@ TEMPLATES = os.path.join(os.path.dirname(os.path.abspath(__file__)), "templates"
 
 
 def readable(line: bytes | str) -> str:
-    """A line as it is shown: what is no text, or not printable, is escaped."""
+    """Renders a line: bytes that are no text and characters that are not printable are escaped."""
     found = line.decode("utf-8", "backslashreplace") if isinstance(line, bytes) else line
     return "".join(c if c.isprintable() or c == "\t" else c.encode("unicode_escape", "replace").decode() for c in found)
 
 
 class Page:
-    """The views of a working copy. Each request looks whether other commands have changed it."""
+    """The views of a working copy. Each request first reads what other commands have changed."""
 
     def __init__(self, top: bytes, token: str) -> None:
         self.token, self.copy = token, Copy(top)
@@ -66,7 +66,7 @@ class Page:
 
     @web.middleware
     async def guard(self, request: web.Request, handler: Any) -> web.StreamResponse:
-        """Who may see the page, what an error says, and the headers of each answer."""
+        """Decides who may see the page, renders errors, and adds the headers of each response."""
         try:
             refused = self._refused(request)
             response = await handler(request) if refused is None else refused
@@ -80,7 +80,7 @@ class Page:
         return response
 
     def _refused(self, request: web.Request) -> web.Response | None:
-        """Other sites' names for this machine are refused, and who does not have the token. A token in the address becomes a cookie."""
+        """Refuses other sites' names for this machine, and who does not have the token. A token in the address becomes a cookie."""
         if not self.token:
             is_here = re.sub(r":\d+$", "", request.host).strip("[]") in LOOPBACK
             return None if is_here else self.render("error.html", 403, message="this page answers to localhost alone")
@@ -94,12 +94,17 @@ class Page:
         return self.render("error.html", 403, message="open the address that `campvc web` has printed, with its token")
 
     def now(self) -> Copy:
-        """The working copy as it is now."""
+        """Returns the working copy as it is now."""
         version = self.copy.version()
         if version != self.version:
             self.copy.open()
             self.version = version
         return self.copy
+
+    def link(self, branch: str, path: str) -> Tuple[str, str]:
+        """Returns the name of a file, and its path if the branch has it."""
+        file = file_name(path)
+        return text(file), encode_path(file) if self.copy.repository.file(branch, encode_path(file)) is not None else ""
 
     def render(self, template: str, status: int = 200, **values: Any) -> web.Response:
         found = self.templates.get_template(template).render(copy=self.copy, text=text, file_name=file_name, **values)
@@ -112,14 +117,14 @@ class Page:
         copy, rows = self.now(), []
         for name in copy.repository.branches():
             names = copy.repository.names(name)
-            rows.append((name, len(names), len(copy.repository.open(name)), copy.note(names[-1]) if names else None, "--" in name))
+            rows.append((name, len(names), len(sides.open_pairs(copy.repository, name)), copy.note(names[-1]) if names else None, "--" in name))
         return self.render("branches.html", rows=sorted(rows, key=lambda row: row[4]))
 
     async def branch(self, request: web.Request) -> web.Response:
-        """The newest patches, and older ones page by page; of a branch of many patches without lanes, and its files if asked for."""
+        """Shows the newest patches, and older ones page by page. A branch of many patches has no lanes, and its files are a link."""
         copy, branch, first = self.now(), request.match_info["branch"], max(0, int(request.query.get("from", "0")))
         names, states = copy.repository.names(branch), show.states_of(copy, branch)
-        is_large = len(names) > MOST_WITH_GRAPH
+        is_large = len(names) > show.MOST_WITH_GRAPH
         needs = {} if is_large else show.needs_of(copy, branch)
         rows = [Row(name, 0, [], [], False) for name in reversed(names)] if is_large else list(lanes(needs))
         shown = rows[first:first + PAGE]
@@ -129,12 +134,12 @@ class Page:
         paths = copy.repository.tree(branch) if not is_large or "files" in request.query else None
         files = paths and [(text(file_name(path)), path) for path in paths if decode_path(path) is not None]
         return self.render(
-            "branch.html", branch=branch, patches=patches, files=files, width=step * width, unresolved=len(copy.repository.open(branch)),
+            "branch.html", branch=branch, patches=patches, files=files, width=step * width, unresolved=len(sides.open_pairs(copy.repository, branch)),
             later=max(0, first - PAGE) if first else None, earlier=first + PAGE if first + PAGE < len(rows) else None,
             is_large=is_large)
 
     async def picture(self, request: web.Request) -> web.Response:
-        """The patches in unresolved conflicts and what they need; as DOT where Graphviz is not installed."""
+        """Draws the patches in unresolved conflicts and what they need; writes DOT if Graphviz is not installed."""
         source, dot = self.now().repository.picture(request.match_info["branch"], only_open=True), shutil.which("dot")
         if not dot:
             return web.Response(text=source)
@@ -142,19 +147,17 @@ class Page:
         return web.Response(body=done.stdout, content_type="image/svg+xml")
 
     async def patch(self, request: web.Request) -> web.Response:
-        """A patch. What it needs is looked up in the graph of its branch; where that is large, as all that it needs, if asked for."""
+        """Shows a patch, with what it needs directly and what it holds; in a branch of many patches that is a link, to all that it needs."""
         copy, branch, name = self.now(), request.match_info["branch"], request.match_info["name"]
-        held, unresolved = [it for it in copy.repository.held(branch, [name]) if it != name], copy.repository.open(branch)
-        needs = None
-        if len(copy.repository.names(branch)) <= MOST_WITH_GRAPH:
-            needs = show.needs_of(copy, branch)[name]
-        elif "needs" in request.query:
-            needs = [it for it in copy.repository.needs(branch, [name]) if it != name]
+        shown, unresolved = copy.repository.show(branch, name).changes, sides.open_pairs(copy.repository, branch)
+        is_large, needs, held = len(copy.repository.names(branch)) > show.MOST_WITH_GRAPH, None, None
+        if not is_large or "needs" in request.query:
+            needs = copy.repository.needs(branch, [name]) if is_large else show.needs_of(copy, branch)[name]
+            needs, held = ([it for it in some if it != name] for some in (needs, copy.repository.held(branch, [name])))
         conflicts = [pair for pair in copy.repository.conflicts(branch) if name in pair]
         pairs = [(other, pair in unresolved) for pair in conflicts for other in pair if other != name]
-        changes = copy.repository.side(branch, name) if pairs else copy.repository.show(branch, name).changes
-        files = [(text(file_name(path)), encode_path(file_name(path)), list(some))
-                 for path, some in groupby(changes, lambda change: change.path)]
+        changes = copy.repository.side(branch, name) if pairs else shown
+        files = [(*self.link(branch, path), list(some)) for path, some in groupby(changes, lambda change: change.path)]
         return self.render("patch.html", branch=branch, name=name, note=copy.note(name), needs=needs, held=held, pairs=pairs,
                            files=files, words=words_of)
 
@@ -172,13 +175,13 @@ class Page:
 
     async def conflicts(self, request: web.Request) -> web.Response:
         copy, branch = self.now(), request.match_info["branch"]
-        files = [(text(file_name(path)), encode_path(file_name(path)), pairs, places(sides.hunks(copy.repository, branch, path, pairs)))
+        files = [(*self.link(branch, path), pairs, places(sides.hunks(copy.repository, branch, path, pairs)))
                  for path, pairs in sides.unresolved(copy.repository, branch).items()]
         return self.render("conflicts.html", branch=branch, files=files)
 
 
 def drawn(row: Row, needs: Dict[str, List[str]], step: float) -> Dict[str, Any]:
-    """The lines of a row of the graph, in a box 100 high: from the lanes above to those below, and where its dot is."""
+    """Returns the lines of a row of the graph, in a box 100 high, from the lanes above to those below; and where its dot is."""
     x = {name: step * (lane + 0.5) for lane, name in enumerate(row.after)}
     own = step * (row.lane + 0.5)
     lines = [(step * (lane + 0.5), 0, x[it], 100) for lane, it in enumerate(row.before) if it != row.name]
@@ -187,13 +190,13 @@ def drawn(row: Row, needs: Dict[str, List[str]], step: float) -> Dict[str, Any]:
 
 
 def words_of(change: Any) -> str:
-    """What a change does, in words."""
-    shown = [line.decode() for line, _ in change_lines([change])]
+    """Says what a change does; nothing for an edit, of which the lines are shown."""
+    shown = [readable(line) for line, _ in change_lines([change])]
     return shown[0] if shown and not (isinstance(change, Edit) and " line " in shown[0]) else ""
 
 
 def places(hunks: sides.Hunks) -> List[Tuple[int, List[bytes], Hunk, List[bytes]]]:
-    """The places of a conflict: the number of its line, and a few lines around it."""
+    """Returns the hunks of a conflict, each with its line number and a few lines around it."""
     found, at = [], 1
     for number, hunk in enumerate(hunks):
         if isinstance(hunk, bytes):
@@ -219,7 +222,7 @@ def serve(port: int, host: str) -> int:
 
     try:
         web.run_app(page.application(), host=host, port=port, print=tell, access_log=None)
-    except OSError as error:
+    except (OSError, OverflowError) as error:
         problem = "port {} of {} can't be served: {}; take another one with --port"
-        raise Failure(problem.format(port, host, error.strerror), 128) from None
+        raise Failure(problem.format(port, host, getattr(error, "strerror", error)), 128) from None
     return 0

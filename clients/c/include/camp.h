@@ -44,6 +44,12 @@ typedef struct camp_view {
     void *at;
 } camp_view;
 
+/* A member of a log that several processes share, or closed. */
+typedef struct camp_member {
+    bool is_open;
+    void *at;
+} camp_member;
+
 #define CAMP_CLOSED {false, NULL}
 
 enum {
@@ -54,6 +60,23 @@ enum {
     CAMP_ALREADY_OPEN = 4, /* the handle to be opened is open already, and stays as it is */
     CAMP_WRONG_KIND = 5    /* the handle has a view where a repository is needed, or a repository where a view is needed; nothing
                               has changed */
+};
+
+/* The codes of members alone. */
+enum {
+    CAMP_NO_TITLE = 16,     /* the first entry is no title of a log; the handle stays closed */
+    CAMP_NO_CALL = 17,      /* the text is not one call in canonical form; nothing has changed */
+    CAMP_TOO_LONG = 18,     /* the call has more than 1,048,516 bytes with its note; nothing has changed */
+    CAMP_FOREIGN = 19,      /* no entry of a member, or one of another process with this seat: the member reads no further */
+    CAMP_OUT_OF_ORDER = 20, /* another entry comes next: that of camp_member_index; nothing has changed */
+    CAMP_NOTHING = 21,      /* nothing is wanted, each answer was taken, or no accepted call has the index */
+    CAMP_READ = 22,         /* the member wants to read the log, from the index that is the number */
+    CAMP_APPEND = 23,       /* the member wants that the text is appended, once, under its seat and the number */
+    CAMP_REPLY = 24,        /* the request of the number has the reply that is the text */
+    CAMP_REFUSED = 25,      /* the request of the number gets none: the log refused its entry */
+    CAMP_ENDED = 26,        /* the request of the number gets none: the log ends before the calls that it waits for */
+    CAMP_STOPPED = 27,      /* the request of the number gets none: the log can be read no further */
+    CAMP_WAITS = 28         /* a request waits for its answer; nothing has changed */
 };
 
 /* Opens a closed handle on a new repository: one branch `main` without patches.
@@ -116,6 +139,75 @@ int32_t camp_view_again(camp_view *view, camp_view *other);
 
 /* Closes a view. One that is closed stays so. */
 void camp_view_close(camp_view *view);
+
+/* Opens a closed handle on a member of a log whose entry 0 is this title: `camp log 1` and a line feed, or with limits
+ * `camp log 1 catches N branches N`. Its seat has 128 bits, which nobody else may have: draw them at random for each
+ * member that you open. A member does no input or output: it says what it wants of the log, and is told what came of it.
+ *
+ *     camp_member_ask(&member, 1, call, call_length, 0);
+ *     while ((wanted = camp_member_want(&member)) != CAMP_NOTHING) {
+ *         if (wanted == CAMP_APPEND) ... append camp_member_text under the seat and camp_member_number, if none is there under it;
+ *                                        where the log refused it for certain: camp_member_refused(&member)
+ *         ... camp_member_found(&member, index, text, length) for each entry of the log from camp_member_index on
+ *         ... camp_member_ended(&member, index) where the log ends before an index, and wanted was CAMP_READ
+ *     }
+ *     while (camp_member_answer(&member) == CAMP_REPLY) ... camp_member_number, camp_member_text
+ *
+ * An append whose outcome is unknown needs nothing: the same entry is wanted until it is found or refused.
+ * CAMP_ALREADY_OPEN: the handle stays as it is. CAMP_NO_TITLE, CAMP_MEMORY: it stays closed. */
+int32_t camp_member_open(camp_member *member, uint64_t seat_high, uint64_t seat_low, const uint8_t *title, size_t length);
+
+/* Gives a member another seat, which nobody else has: a process that was forked goes on under one of its own. CAMP_WAITS: a
+ * request waits, and the seat stays. */
+int32_t camp_member_take_seat(camp_member *member, uint64_t seat_high, uint64_t seat_low);
+
+/* Queues one call in canonical form, after its note if it has one, under a number of yours: a command that writes, or
+ * `tree`, `conflicts` or `names`. It is answered where at least so many calls were accepted: an `ok` that you have seen.
+ * CAMP_NO_CALL, CAMP_TOO_LONG, CAMP_MEMORY: nothing is queued. */
+int32_t camp_member_ask(camp_member *member, uint64_t request, const uint8_t *text, size_t length, uint64_t at_least);
+
+/* Answers the first requests that can be answered at what was read, and says what is wanted of the log: CAMP_NOTHING,
+ * CAMP_READ or CAMP_APPEND. CAMP_MEMORY: ask again; what was answered stays answered. */
+int32_t camp_member_want(camp_member *member);
+
+/* Gives a member the entry at an index of the log, in order; what it has read already is passed over. The requests of its
+ * own entry are answered where that stands. CAMP_FOREIGN: it reads no further, and answers at what it has read.
+ * CAMP_OUT_OF_ORDER, CAMP_MEMORY: nothing has changed. */
+int32_t camp_member_found(camp_member *member, size_t index, const uint8_t *text, size_t length);
+
+/* Says that the log did not take the entry that is wanted, and never will. */
+int32_t camp_member_refused(camp_member *member);
+
+/* Says that the log ends at an index: it has so many entries, with its title. A request that waits for more is answered so. */
+int32_t camp_member_ended(camp_member *member, size_t index);
+
+/* Takes the next answer, in the order of the requests: CAMP_REPLY, CAMP_REFUSED, CAMP_ENDED, CAMP_STOPPED, or CAMP_NOTHING.
+ * CAMP_MEMORY: it is not taken. */
+int32_t camp_member_answer(camp_member *member);
+
+/* Renders an accepted call of what was read, counted from 0, after its note: the text. CAMP_NOTHING: there is none. */
+int32_t camp_member_call(camp_member *member, size_t index);
+
+/* The number that was given last, by camp_member_want, camp_member_answer or camp_member_call; 0 where the handle is closed. */
+uint64_t camp_member_number(camp_member *member);
+
+/* How many bytes the text has that was given last; 0 where the handle is closed. */
+size_t camp_member_text_length(camp_member *member);
+
+/* Writes as much of that text as the buffer takes, from its beginning, and tells how many bytes that is. */
+size_t camp_member_text(camp_member *member, uint8_t *buffer, size_t length);
+
+/* The index of the entry that is read next; 0 where the handle is closed. */
+size_t camp_member_index(camp_member *member);
+
+/* How many calls were accepted in what was read; 0 where the handle is closed. */
+uint64_t camp_member_accepted(camp_member *member);
+
+/* Opens a closed handle on a view of the repository after what was read, as camp_look does. */
+int32_t camp_member_look(camp_member *member, camp_view *view);
+
+/* Closes a member. One that is closed stays so. */
+void camp_member_close(camp_member *member);
 
 /* The version of the library, as "0.1.0"; the text stays. */
 const char *camp_version(void);

@@ -41,7 +41,8 @@ static bool view_answers(camp_view *view, const char *text) {
 /* The library says its version, and each code has words of its own. */
 static void version_and_codes(void) {
     CHECK(strlen(camp_version()) >= 5);
-    for (int32_t code = CAMP_DONE; code <= CAMP_WRONG_KIND; code++) {
+    for (int32_t code = CAMP_DONE; code <= CAMP_WAITS; code++) {
+        if (code > CAMP_WRONG_KIND && code < CAMP_NO_TITLE) continue;
         CHECK(strlen(camp_code_text(code)) > 0 && strcmp(camp_code_text(code), camp_code_text(-1)));
         CHECK(code == CAMP_DONE || strcmp(camp_code_text(code), camp_code_text(code - 1)));
     }

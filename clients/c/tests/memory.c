@@ -166,18 +166,53 @@ static int run(void) {
     return wrong ? 10 + wrong : 0;
 }
 
+/* A call that runs out of memory, which changes nothing, is made once more. */
+#define TWICE(call) ((code = (call)) == CAMP_MEMORY ? (until = -1, (call)) : code)
+
+static bool gives(camp_member *member, const char *text) {
+    uint8_t given[256];
+    size_t length = camp_member_text(member, given, sizeof given);
+    return length == strlen(text) && !memcmp(given, text, length);
+}
+
+/* A member asks calls over a log in memory; the status says what was wrong. */
+static int run_member(void) {
+    static const char entry[] = "entry 00000000000000010000000000000002 1\n#note why\nrecord main start add f\n";
+    const uint8_t *text = (const uint8_t *)entry, *call = (const uint8_t *)strchr(entry, '#');
+    size_t length = strlen(entry), call_length = strlen((const char *)call);
+    camp_member member = CAMP_CLOSED;
+    camp_view view = CAMP_CLOSED;
+    int32_t code;
+    if (TWICE(camp_member_open(&member, 1, 2, (const uint8_t *)"camp log 1\n", 11)) != CAMP_DONE) return 1;
+    if (TWICE(camp_member_ask(&member, 7, call, call_length, 0)) != CAMP_DONE) return 2;
+    if (TWICE(camp_member_want(&member)) != CAMP_APPEND || !gives(&member, entry)) return 3;
+    if (TWICE(camp_member_found(&member, 1, text, length)) != CAMP_DONE || camp_member_accepted(&member) != 1) return 4;
+    if (TWICE(camp_member_answer(&member)) != CAMP_REPLY || camp_member_number(&member) != 7 || !gives(&member, "ok 1\n")) return 5;
+    if (TWICE(camp_member_call(&member, 0)) != CAMP_DONE || !gives(&member, (const char *)call)) return 6;
+    if (TWICE(camp_member_ask(&member, 8, (const uint8_t *)"names main\n", 11, 5)) != CAMP_DONE) return 7;
+    if (TWICE(camp_member_want(&member)) != CAMP_READ || TWICE(camp_member_ended(&member, 2)) != CAMP_DONE) return 8;
+    if (TWICE(camp_member_answer(&member)) != CAMP_ENDED || camp_member_number(&member) != 8) return 9;
+    if (TWICE(camp_member_ask(&member, 9, (const uint8_t *)"branch b main\n", 14, 0)) != CAMP_DONE) return 10;
+    if (TWICE(camp_member_want(&member)) != CAMP_APPEND || TWICE(camp_member_refused(&member)) != CAMP_DONE) return 11;
+    if (TWICE(camp_member_answer(&member)) != CAMP_REFUSED || camp_member_answer(&member) != CAMP_NOTHING) return 12;
+    if (TWICE(camp_member_look(&member, &view)) != CAMP_DONE || !view.is_open) return 13;
+    camp_view_close(&view);
+    camp_member_close(&member);
+    return 0;
+}
+
 int main(void) {
     long refused = 0;
-    for (int pass = 0; pass < 2; pass++) {
-        ever_after = pass == 1;
+    for (int pass = 0; pass < 4; pass++) {
+        ever_after = pass % 2 == 1;
         for (long n = 0;; n++) {
             long before = live;
             until = n;
             was_refused = false;
-            int wrong = run();
+            int wrong = pass < 2 ? run() : run_member();
             until = -1;
             if (wrong || live != before) {
-                printf("memory: allocation %ld refused: wrong %d, %ld blocks left\n", n, wrong, live - before);
+                printf("memory: pass %d: allocation %ld refused: wrong %d, %ld blocks left\n", pass, n, wrong, live - before);
                 return 1;
             }
             if (!was_refused) break;

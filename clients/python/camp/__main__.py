@@ -8,6 +8,7 @@ import sys
 from typing import List, NoReturn, Optional
 
 from . import __version__
+from .terminal.backend import LogPlace
 from .terminal.progress import Progress
 from .terminal.screen import visible
 
@@ -66,6 +67,7 @@ def add_repository(command: argparse.ArgumentParser) -> None:
     command.add_argument("--load", metavar="FILE", nargs="+", action="extend", default=[], help="run these files of commands first")
     command.add_argument("--progress", action="store_true", help="say each second how long an answer takes, even where standard error is no terminal")
     command.add_argument("--log", metavar="ADDRESS", help="share the repository over a log: sqlite:PATH, etcd:HOST:PORT[,..]/PREFIX, postgres:DSN")
+    command.add_argument("--kept", metavar="FILE", help="with --log: keep what is read of the log in this file, and start from it the next time")
 
 
 def main(words: Optional[List[str]] = None) -> int:
@@ -81,17 +83,20 @@ def main(words: Optional[List[str]] = None) -> int:
         Progress.is_wanted = given.progress
         if given.log is not None and (given.store is not None or given.load):
             found.error("--log goes with neither --store nor --load")
+        if given.kept is not None and given.log is None:
+            found.error("--kept FILE goes with --log: it keeps what is read of a log")
+        log = None if given.log is None else LogPlace(given.log, given.kept)
         if given.command == "graph":
             from .terminal.graph import draw
-            return draw(given)
+            return draw(given, log)
         if given.completions is not None:
             from .terminal.run import write_completions
-            return write_completions(given.completions, given.store, given.load, given.log)
+            return write_completions(given.completions, given.store, given.load, log)
         if given.json:
             from .terminal.as_json import run_json
-            return run_json(given.store, given.load, given.log)
+            return run_json(given.store, given.load, log)
         from .terminal.run import run
-        return run(given.store, given.load, given.log)
+        return run(given.store, given.load, log)
     except BrokenPipeError:
         # Nothing is left to be written when Python ends.
         os.dup2(os.open(os.devnull, os.O_WRONLY), sys.stdout.fileno())

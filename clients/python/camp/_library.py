@@ -55,6 +55,17 @@ def _declare(library: Any, name: str, arguments: List[Any], result: Any) -> None
     call.argtypes, call.restype = arguments, result
 
 
+def _declare_members(library: Any, handle: Any) -> None:
+    number, size, text = ctypes.c_uint64, ctypes.c_size_t, ctypes.c_char_p
+    asked = {"open": [number, number, text, size], "take_seat": [number, number], "ask": [number, text, size, number], "want": [],
+             "found": [size, text, size], "refused": [], "ended": [size], "answer": [], "call": [size], "look": [handle]}
+    told = {"number": ([], number), "text_length": ([], size), "text": ([text, size], size), "index": ([], size), "accepted": ([], number), "close": ([], None)}
+    for name, arguments in asked.items():
+        _declare(library, "camp_member_" + name, [handle, *arguments], ctypes.c_int32)
+    for name, (arguments, result) in told.items():
+        _declare(library, "camp_member_" + name, [handle, *arguments], result)
+
+
 def _load() -> ctypes.CDLL:
     library = _open()
     handle = ctypes.POINTER(Handle)
@@ -71,6 +82,7 @@ def _load() -> ctypes.CDLL:
                           .format(library._name, found, VERSION))
     _declare(library, "camp_executed", [handle], ctypes.c_size_t)
     _declare(library, "camp_open", [handle], ctypes.c_int32)
+    _declare_members(library, handle)
     _declare(library, "camp_open_with", [handle, ctypes.c_size_t, ctypes.c_size_t], ctypes.c_int32)
     return library
 

@@ -2,7 +2,7 @@
 
 from __future__ import annotations
 
-from typing import Dict, Iterator, List, NamedTuple, Union
+from typing import Dict, Iterable, Iterator, List, NamedTuple, Union
 
 from .changes import Add, Change, Edit, Remove
 from .errors import Unexpected
@@ -64,6 +64,10 @@ class Answer:
     def __init__(self, response: bytes):
         self._lines, self._at = response.split(b"\n"), 0
         self._lines.pop()
+
+    def begin_again(self) -> None:
+        """Goes back to the first line."""
+        self._at = 0
 
     def next_line(self) -> bytes:
         return self._next_lines(1)[0]
@@ -201,10 +205,33 @@ def read_history(answer: Answer) -> List[AcceptedCall]:
     return calls
 
 
-def read_outcome(answer: Answer) -> Outcome:
-    """`ok NUMBER`, and parts that say how many lines they have; the last one is the tree. Parts of later versions are
-    passed over."""
-    accepted = answer.count("ok")
+def with_files(response: bytes, paths: Iterable[str]) -> bytes:
+    """A response to `whatif` with no other files in its tree than these, as far as they are there."""
+    at, words = 0, [b""]
+    while words[0] != b"tree":
+        end = response.find(b"\n", at)
+        if end < 0:
+            return response
+        words, begin = response[at:end].split(b" "), at
+        for _ in range(number(words[-1].decode("ascii", "replace")) if words[0] in (b"conflicts", b"opened", b"resolved") else 0):
+            end = response.index(b"\n", end + 1)
+        at = end + 1
+    files = []
+    for path in paths:
+        # A line of a file begins with `=`, so this is found nowhere else.
+        found = response.find(b"\nfile %s " % path.encode(), at - 1) + 1
+        if found:
+            end = response.index(b"\n", found) + 1
+            count = number(response[found:end - 1].split(b" ")[-1].decode("ascii", "replace"))
+            for _ in range(count):
+                end = response.index(b"\n", end) + 1
+            files.append(response[found:end])
+    return b"".join([response[:begin], b"tree %d\n" % len(files), *files])
+
+
+def read_outcome(accepted: int, answer: Answer) -> Outcome:
+    """Reads what follows `ok NUMBER`: parts that say how many lines they have, the last one is the tree. Parts of later versions
+    are skipped."""
     parts: Dict[str, List[List[str]]] = {}
     words = answer.next_words()
     while words[0] != "tree":

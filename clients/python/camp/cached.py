@@ -28,6 +28,8 @@ from .worktree import Stamp
 
 # The questions whose answers are kept, up to so many bytes; and a word that is no question, for all notes.
 KEPT, MOST, NOTES = ("annotate", "branches", "conflicts", "held", "missing", "names", "needs", "open", "show", "side"), 1 << 22, b"notes"
+# Those that a loaded repository answers in less time than a file does.
+QUICK = ("branches", "conflicts", "missing", "names", "show")
 TABLE = "CREATE TABLE IF NOT EXISTS answers (question BLOB PRIMARY KEY, state BLOB NOT NULL, answer BLOB NOT NULL, digest BLOB NOT NULL)"
 
 
@@ -85,10 +87,11 @@ class Cache:
 
 
 class CachedAnswers(Questions):
-    """What a shared repository answers: out of a cache where that has it, else the repository is loaded for it."""
+    """What a shared repository answers: out of a cache where that has it, else the repository is loaded for it. Where it `stays_loaded`,
+    as in a process that serves many commands, it answers quick questions itself."""
 
-    def __init__(self, of: Offline, path: str) -> None:
-        self.of, self.cache, self._lock = of, Cache(path), threading.Lock()
+    def __init__(self, of: Offline, path: str, stays_loaded: bool = False) -> None:
+        self.of, self.cache, self.stays_loaded, self._lock = of, Cache(path), stays_loaded, threading.Lock()
         # The state and the notes, each with where the repository was then.
         self._state, self._notes = ((), b""), ((), {})  # type: Tuple[Tuple, bytes], Tuple[Tuple, Dict[str, bytes]]
 
@@ -103,7 +106,8 @@ class CachedAnswers(Questions):
         return self._state[1]
 
     def _respond(self, text: bytes) -> bytes:
-        is_kept = text.decode("ascii", "replace").split(None, 1)[0] in KEPT
+        word = text.decode("ascii", "replace").split(None, 1)[0]
+        is_kept = word in KEPT and not (self.stays_loaded and self.of.is_loaded and word in QUICK)
         found = self.cache.get(self.state(), text) if is_kept else None
         if found is None:
             found = self.of.shared.ask(text)

@@ -65,8 +65,15 @@ def unified(before: Files, after: Files, paths: Sequence[bytes]) -> Iterator[Lin
         if any(b"\0" in file.content for file in (old, new) if file):
             yield b"binary files differ", Kind.OTHER
             continue
-        names = [b"a/" + path if old else b"/dev/null", b"b/" + path if new else b"/dev/null"]
+        names = [_quoted(b"a/" + path) if old else b"/dev/null", _quoted(b"b/" + path) if new else b"/dev/null"]
         yield from _compare(_lines(old), _lines(new), names)
+
+
+def _quoted(path: bytes) -> bytes:
+    """A path as `patch` reads it: in quotes where it has a quote, a backslash or a control character."""
+    if not re.search(rb'[\0-\x1f"\\\x7f]', path):
+        return path
+    return b'"' + re.sub(rb'[\0-\x1f"\\\x7f]', lambda found: b"\\%03o" % ord(found[0]), path) + b'"'
 
 
 def _compare(old: List[bytes], new: List[bytes], names: List[bytes]) -> Iterator[Line]:

@@ -1,11 +1,15 @@
 """A log in etcd 3.4 or later, over its JSON gateway: for processes of many machines."""
 import base64
+import contextlib
 import http.client
 import json
 import threading
 from typing import Dict, List, Sequence
 
-from .logs import TIMEOUT, TITLE, AppendOutcome, Away, Damaged
+from .logs import TIMEOUT, TITLE, AppendOutcome, Away, Damaged, default_patience, write_title
+
+# What comes of an endpoint that is not there, or ends in between.
+NO_ANSWER = (OSError, http.client.HTTPException, ValueError, Away)
 
 
 def _text(data: bytes) -> str:
@@ -13,61 +17,52 @@ def _text(data: bytes) -> str:
 
 
 class EtcdLog:
-    """Entries under one prefix, a key for each tag, in the order of their revisions. Each append also writes a key that counts
-    them, so an entry that was removed shows. Entries come by a watch."""
+    """Entries under one prefix, a key for each tag, in the order of their revisions. Each append writes a key that counts them, so
+    a removed one shows. They come by a watch, and after all that was done to them before comes a key that who opens the log writes."""
 
     def __init__(self, endpoints: Sequence[str], prefix: str, title: bytes = TITLE):
         self.endpoints, self.prefix = list(endpoints), prefix.encode()
         self._range = {"key": _text(self.prefix + b"/entries/"), "range_end": _text(self.prefix + b"/entries0")}
-        self._count = _text(self.prefix + b"/count")
-        self._entries, self._revision, self._damaged, self._turn, self._closed = [], 0, None, 0, False
+        self._count, self._opened = _text(self.prefix + b"/count"), _text(self.prefix + b"/opened")
+        self._entries, self._revision, self._damaged, self._turn, self._closed, self._first = [], 0, None, 0, False, 0
         self._changed = threading.Condition()
-        if self.append("log", title) is AppendOutcome.REFUSED:
-            raise Away("etcd refuses the title of the log")
+        write_title(self, title)
+        # Where etcd is full, or is read-only, the log can be read all the same.
+        with contextlib.suppress(Away):
+            self._first = int(self._asked("kv/put", {"key": self._opened, "value": ""})["header"]["revision"])
         threading.Thread(target=self._follow, daemon=True).start()
 
     def _post(self, path: str, asked: Dict, timeout: float = TIMEOUT) -> http.client.HTTPResponse:
-        """The answer of the endpoint whose turn it is; where it fails it is the next one's turn."""
-        host = self.endpoints[self._turn % len(self.endpoints)]
-        try:
-            connection = http.client.HTTPConnection(host, timeout=timeout)
-            connection.request("POST", "/v3/" + path, json.dumps(asked), {"Content-Type": "application/json", "Connection": "close"})
-            return connection.getresponse()
-        except (OSError, http.client.HTTPException):
-            self._turn += 1
-            raise
+        """The answer of the endpoint whose turn it is."""
+        connection = http.client.HTTPConnection(self.endpoints[self._turn % len(self.endpoints)], timeout=timeout)
+        connection.request("POST", "/v3/" + path, json.dumps(asked), {"Content-Type": "application/json", "Connection": "close"})
+        return connection.getresponse()
 
-    def _asked(self, path: str, asked: Dict) -> Dict:
+    def _asked(self, path: str, asked: Dict, timeout: float = TIMEOUT) -> Dict:
         """An answer, from whichever endpoint gives one."""
         for _ in range(4 * len(self.endpoints)):
-            try:
-                response = self._post(path, asked)
+            with contextlib.suppress(*NO_ANSWER):
+                response = self._post(path, asked, timeout)
                 body = response.read()
                 if response.status == 200:
                     return json.loads(body)
-                self._turn += 1
-            except (OSError, http.client.HTTPException, ValueError):
-                continue
+            self._turn += 1
         raise Away("no endpoint of etcd answers")
 
     def append(self, tag: str, text: bytes) -> AppendOutcome:
         key = _text(self.prefix + b"/entries/" + tag.encode())
         puts = [{"request_put": {"key": one, "value": value}} for one, value in ((key, _text(text)), (self._count, ""))]
         free = {"key": key, "target": "CREATE", "result": "EQUAL", "create_revision": "0"}
-        try:
+        with contextlib.suppress(*NO_ANSWER):
             response = self._post("kv/txn", {"compare": [free], "success": puts})
             body = response.read()
             if response.status == 200:
                 return AppendOutcome.APPENDED if json.loads(body).get("succeeded") else AppendOutcome.TAKEN
-            if b"too large" in body or b"database space exceeded" in body:
-                return AppendOutcome.UNKNOWN if self._has(key) else AppendOutcome.REFUSED
-        except (OSError, http.client.HTTPException, ValueError, Away):
-            pass
+            if any(words in body for words in (b"too large", b"larger than max", b"space exceeded")):
+                found = self._asked("kv/range", {"key": key, "count_only": True})
+                return AppendOutcome.UNKNOWN if found.get("count") else AppendOutcome.REFUSED
         self._turn += 1
         return AppendOutcome.UNKNOWN
-
-    def _has(self, key: str) -> bool:
-        return bool(self._asked("kv/range", {"key": key, "count_only": True}).get("count"))
 
     def read(self, index: int, wait: float = 0.0) -> List[bytes]:
         with self._changed:
@@ -77,8 +72,13 @@ class EtcdLog:
             return self._entries[index:index + 1024]
 
     def length(self) -> int:
+        """How many entries were counted; more than can be read where one was changed or removed, at least if that was before this was opened."""
         found = self._asked("kv/range", {"key": self._count}).get("kvs", [])
-        return int(found[0]["version"]) if found else 0
+        with self._changed:
+            while (seen := self._revision) < self._first and self._damaged is None:
+                if not self._changed.wait_for(lambda: self._revision > seen or self._damaged is not None, default_patience()):
+                    raise Away("etcd does not send the entries of the log")
+            return max(int(found[0]["version"]) if found else 0, 0 if self._damaged is None else self._damaged + 1)
 
     def close(self) -> None:
         self._closed = True
@@ -86,13 +86,11 @@ class EtcdLog:
     def _follow(self) -> None:
         """Watches the entries, from the first one that is not known."""
         while not self._closed and self._damaged is None:
-            watch = {**self._range, "start_revision": str(self._revision + 1)}
-            try:
+            watch = {**self._range, "range_end": _text(self.prefix + b"/opened0"), "start_revision": str(self._revision + 1)}
+            with contextlib.suppress(*NO_ANSWER):
                 response = self._post("watch", {"create_request": watch}, 2.0)
                 while self._damaged is None and (line := response.readline()):
                     self._take(json.loads(line).get("result", {}))
-            except (OSError, http.client.HTTPException, ValueError):
-                pass
             self._turn += 1
 
     def _take(self, response: Dict) -> None:
@@ -101,17 +99,19 @@ class EtcdLog:
                 self._load()
             for event in response.get("events", []):
                 kv = event["kv"]
+                self._revision = int(kv["mod_revision"])
+                if kv["key"] == self._opened:
+                    continue
                 if event.get("type", "PUT") != "PUT" or kv.get("version") != "1":
                     self._damaged = len(self._entries)
                     break
                 self._entries.append(base64.b64decode(kv.get("value", "")))
-                self._revision = int(kv["mod_revision"])
             self._changed.notify_all()
 
     def _load(self) -> None:
         """All entries as they are now, where etcd no longer knows how they came; as many as were ever counted."""
         entries = {**self._range, "sort_target": "CREATE", "sort_order": "ASCEND"}
-        found = self._asked("kv/txn", {"success": [{"request_range": one} for one in (entries, {"key": self._count})]})
+        found = self._asked("kv/txn", {"success": [{"request_range": one} for one in (entries, {"key": self._count})]}, 30.0)
         kvs, counts = (answer["response_range"].get("kvs", []) for answer in found["responses"])
         texts = [base64.b64decode(kv.get("value", "")) for kv in kvs]
         if len(texts) != int(counts[0]["version"]) or texts[:len(self._entries)] != self._entries or any(kv["version"] != "1" for kv in kvs):

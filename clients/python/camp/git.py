@@ -38,13 +38,14 @@ def write_stream(of: Questions, branch: str, notes: Mapping[str, bytes], ref: st
     """Writes a branch as a stream that `git fast-import` reads into the branch `ref`."""
     before: Files = {}
     for number, (name, files) in enumerate(history(of, branch), 1):
-        check_names(files)
+        paths = changed(before, files)
+        check_names(files, paths)
         note = read_note(notes.get(name, b""))
         out.write(b"commit refs/heads/%s\nmark :%d\n" % (ref.encode(), number))
         out.write(b"author %s\ncommitter %s\n" % ((_person(note),) * 2))
         out.write(_data((note.message or name).encode("utf-8", "surrogateescape") + b"\n"))
         out.write(b"from :%d\n" % (number - 1) if number > 1 else b"")
-        for path in changed(before, files):
+        for path in paths:
             out.write(_modify(path, files[path]) if path in files else b"D %s\n" % _quoted(path))
         out.write(b"\n")
         before = files

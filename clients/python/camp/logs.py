@@ -1,22 +1,27 @@
 """Carriers of a log that many processes share: the tags are unique, the order is the engine's, nothing is ever removed.
 
 `open_log` makes one from an address. An entry is bytes, and entries are counted from 0; the first is the title, which a carrier
-writes where the log is empty: `TITLE`, or with limits of the repository what `title_with` makes. `Damaged` is raised where the engine shows that an entry was changed or removed, `Away` where no
-endpoint answers, `Foreign` where something else stands at the address.
+writes where the log is empty: `TITLE`, or with limits of the repository what `title_with` makes. `Damaged` is raised where it shows that an
+entry was changed or removed, `Away` where no endpoint answers, `Foreign` where something else stands at the address.
 """
 
 from __future__ import annotations
 
+import contextlib
 import enum
+import fcntl
 import os
 import re
 import sqlite3
 import threading
 import time
-from typing import Dict, List, Optional, Protocol, Sequence, Tuple
+import zlib
+from typing import Dict, Iterator, List, Optional, Protocol, Sequence, Tuple
 
 TITLE = b"camp log 1\n"
 TIMEOUT = 0.5
+# Seconds between two tries to lock a file; the next process to write has no other beside it, and tries more often.
+PAUSE, SHORT_PAUSE = 0.001, 0.0002
 
 
 def title_with(catches: int, branches: int) -> bytes:
@@ -61,11 +66,13 @@ class Log(Protocol):
         """Gives up what it holds."""
 
 
-def open_log(address: str, title: bytes = TITLE) -> Log:
+def open_log(address: str, title: bytes = TITLE, must_exist: bool = False) -> Log:
     """The log at an address: `sqlite:PATH`, `etcd:HOST:PORT[,HOST:PORT ..]/PREFIX`, or `postgres:DSN` as psycopg2 has it. A new log
-    gets the title."""
+    gets the title; a file that `must_exist` and is not there is `Away`."""
     kind, _, rest = address.partition(":")
     if kind == "sqlite" and rest:
+        if must_exist and not os.path.exists(rest):
+            raise Away("there is no file {}".format(rest))
         return SqliteLog(rest, title)
     hosts, _, prefix = rest.partition("/")
     if kind == "etcd" and hosts and prefix:
@@ -92,68 +99,132 @@ class Away(Exception):
     """The engine does not answer."""
 
 
+def write_title(log: Log, title: bytes) -> None:
+    """Appends the title where the log is empty; `Away` where the engine refuses it, or does not take it for a while."""
+    end = time.monotonic() + default_patience()
+    while log.length() == 0:
+        if log.append("log", title) is AppendOutcome.REFUSED:
+            raise Away("the engine refuses the title of the log: its space is full, or it is read-only")
+        if time.monotonic() > end:
+            raise Away("the engine does not take the title of the log")
+
+
 class Foreign(Exception):
     """What stands at the address is of another program."""
 
 
+def sealed(text: bytes) -> bytes:
+    """What a table has of an entry: behind its text is a checksum, so that a changed one shows."""
+    return b"%s%08x" % (text, zlib.crc32(text))
+
+
+def unsealed(stored: bytes) -> Optional[bytes]:
+    """The text of an entry; None if it was changed. What ends a line is one that another program wrote, and is left to the member."""
+    if stored.endswith(b"\n"):
+        return stored
+    text = stored[:-8]
+    return text if stored == sealed(text) else None
+
+
 def in_order(index: int, rows: Sequence[Tuple[int, bytes]]) -> List[bytes]:
-    """The entries of rows, each with its index, from an index on and up to the first that is missing or no bytes; `Damaged` if that is
-    the first of all."""
+    """The entries of rows, each with its index, from an index on and up to the first that is missing or changed; `Damaged` if that is the
+    first of all."""
     entries: List[bytes] = []
-    for number, (at, text) in enumerate(rows, index):
-        if at != number or not isinstance(text, (bytes, memoryview)):
+    for number, (at, stored) in enumerate(rows, index):
+        text = unsealed(bytes(stored)) if at == number and isinstance(stored, (bytes, memoryview)) else None
+        if text is None:
             break
-        entries.append(bytes(text))
+        entries.append(text)
     if rows and not entries:
         raise Damaged(index)
     return entries
 
 
 class SqliteLog:
-    """A table of a SQLite file, for the processes of one machine. Each entry is on the disk before it counts."""
+    """A table of a SQLite file, for the processes of one machine. Each entry is on the disk before it counts. Who appends holds the
+    file PATH-queue until it is its turn: else a process that has just written would be the first again, and others would starve."""
 
     def __init__(self, path: str, title: bytes = TITLE):
         self.path = os.fspath(path)
         self._local = threading.local()
         try:
-            tables = [row[0] for row in self._once("SELECT name FROM sqlite_master WHERE type = 'table'")]
+            with contextlib.closing(sqlite3.connect(self.path, timeout=0)) as base:
+                sql = "SELECT name FROM sqlite_master WHERE type = 'table'"
+                tables = [row[0] for row in _patiently(lambda: base.execute(sql).fetchall())]
+        except sqlite3.OperationalError as error:
+            raise Away(str(error)) from None
         except sqlite3.DatabaseError as error:
             if "not a database" not in str(error):
                 raise
             tables = [""]
         if tables and tables != ["entries"]:
             raise Foreign("{} is a file of another program".format(self.path))
-        self._once("CREATE TABLE IF NOT EXISTS entries (at INTEGER PRIMARY KEY, tag TEXT UNIQUE NOT NULL, text BLOB NOT NULL)")
-        self.append("log", title)
+        if not tables:
+            self._once("CREATE TABLE IF NOT EXISTS entries (at INTEGER PRIMARY KEY, tag TEXT UNIQUE NOT NULL, text BLOB NOT NULL)")
+        write_title(self, title)
 
     def _base(self) -> sqlite3.Connection:
         if not hasattr(self._local, "base"):
-            base = sqlite3.connect(self.path, timeout=TIMEOUT, isolation_level=None)
+            base = sqlite3.connect(self.path, timeout=0, isolation_level=None)
             for pragma in ("journal_mode = WAL", "synchronous = FULL"):
                 _patiently(lambda: base.execute("PRAGMA " + pragma))
             self._local.base = base
         return self._local.base
 
     def _once(self, sql: str, *values):
-        return _patiently(lambda: self._base().execute(sql, values).fetchall())
+        try:
+            return _patiently(lambda: self._base().execute(sql, values).fetchall())
+        except sqlite3.Error as error:
+            raise Away("SQLite says: {}".format(error)) from error
 
     def append(self, tag: str, text: bytes) -> AppendOutcome:
         try:
-            self._base().execute("INSERT INTO entries SELECT coalesce(max(at) + 1, 0), ?, ? FROM entries", (tag, text))
+            base = self._base()
+            # What is interrupted is rolled back.
+            with base:
+                with self._queue():
+                    _patiently(lambda: base.execute("BEGIN IMMEDIATE"), TIMEOUT, SHORT_PAUSE)
+                base.execute("INSERT INTO entries SELECT coalesce(max(at) + 1, 0), ?, ? FROM entries", (tag, sealed(text)))
             return AppendOutcome.APPENDED
         except sqlite3.IntegrityError:
             return AppendOutcome.TAKEN
         except (sqlite3.DataError, OverflowError):
             return AppendOutcome.REFUSED
+        except Away:
+            return AppendOutcome.UNKNOWN
         except sqlite3.Error as error:
             return AppendOutcome.REFUSED if self._is_refused(error, tag) else AppendOutcome.UNKNOWN
 
+    @contextlib.contextmanager
+    def _queue(self) -> Iterator[None]:
+        """Waits for a while until no other process is the next one to write. A process that was stopped there stops nobody."""
+        file = self._queue_file()
+        if file is None:
+            yield
+            return
+        end = time.monotonic() + TIMEOUT
+        try:
+            while not _is_locked(file) and time.monotonic() < end:
+                time.sleep(PAUSE)
+            yield
+        finally:
+            fcntl.flock(file, fcntl.LOCK_UN)
+
+    def _queue_file(self) -> Optional[int]:
+        if not hasattr(self._local, "queue"):
+            try:
+                self._local.queue = os.open(self.path + "-queue", os.O_RDONLY | os.O_CREAT, 0o666)
+            except OSError:
+                # Who may not write here is told by SQLite.
+                return None
+        return self._local.queue
+
     def _is_refused(self, error: sqlite3.Error, tag: str) -> bool:
         """Whether the engine took nothing under the tag, for certain: what it wrote of it is rolled back."""
-        if not any(word in str(error) for word in ("full", "too big", "readonly")):
-            return False
+        is_lasting = any(word in str(error) for word in ("full", "too big", "readonly"))
         try:
-            return not self._base().in_transaction and not self._once("SELECT 1 FROM entries WHERE tag = ?", tag)
+            self._base().rollback()
+            return is_lasting and not self._once("SELECT 1 FROM entries WHERE tag = ?", tag)
         except (sqlite3.Error, Away):
             return False
 
@@ -163,7 +234,7 @@ class SqliteLog:
             rows = self._once("SELECT at, text FROM entries WHERE at >= ? ORDER BY at LIMIT 1024", index)
             if rows or time.monotonic() >= end:
                 return in_order(index, rows)
-            time.sleep(0.001)
+            time.sleep(PAUSE)
 
     def length(self) -> int:
         return self._once("SELECT coalesce(max(at) + 1, 0) FROM entries")[0][0]
@@ -172,6 +243,9 @@ class SqliteLog:
         if hasattr(self._local, "base"):
             self._local.base.close()
             del self._local.base
+        if hasattr(self._local, "queue"):
+            os.close(self._local.queue)
+            del self._local.queue
 
 
 class RememberedLog:
@@ -197,6 +271,10 @@ class RememberedLog:
         """An entry that was read before; empty where it was not."""
         found = self._base.execute("SELECT text FROM entries WHERE at = ?", (index,)).fetchone()
         return found[0] if found else b""
+
+    def forget(self, index: int) -> None:
+        """Removes the entries from an index on: they will be read again."""
+        self._base.execute("DELETE FROM entries WHERE at >= ?", (index,))
 
     def _check(self) -> None:
         """`Foreign` where the engine does not have what was read last."""
@@ -243,13 +321,24 @@ class RememberedLog:
             self.engine.close()
 
 
-def _patiently(ask, tries: int = 20):
-    """What is asked, asked again while another process holds the file."""
-    for _ in range(tries):
+def _patiently(ask, seconds: Optional[float] = None, pause: float = PAUSE):
+    """What is asked, asked again while another process holds the file, for so many seconds, or as long as an engine may be silent."""
+    end = time.monotonic() + (default_patience() if seconds is None else seconds)
+    while True:
         try:
             return ask()
         except sqlite3.OperationalError as error:
-            if "locked" not in str(error) and "busy" not in str(error):
+            if not any(word in str(error) for word in ("locked", "busy", "locking protocol")):
                 raise
-            time.sleep(0.01)
-    raise Away("the file is locked")
+            if time.monotonic() > end:
+                raise Away("the file is locked") from None
+        time.sleep(pause)
+
+
+def _is_locked(file: int) -> bool:
+    """Locks an open file, unless another process has it locked; whether it did."""
+    try:
+        fcntl.flock(file, fcntl.LOCK_EX | fcntl.LOCK_NB)
+    except BlockingIOError:
+        return False
+    return True

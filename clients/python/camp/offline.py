@@ -15,7 +15,7 @@ from typing import Callable, List, NamedTuple, Optional, Sequence, Tuple
 
 from .errors import OutcomeUnknown
 from .logs import Away, Log, RememberedLog
-from .shared import Shared
+from .shared import Shared, Stopped
 
 # Calls, each a command and its note.
 Calls = List[Tuple[bytes, bytes]]
@@ -80,7 +80,13 @@ class Offline:
         return self._shared
 
     def _load(self, shared: Shared) -> None:
-        shared.sync()
+        try:
+            shared.sync()
+        except Stopped as error:
+            # It is read anew, in case somebody puts it right.
+            assert self.log
+            self.log.forget(error.index)
+            raise
         if self._behind:
             shared.execute_here(self._behind)
         self._shared = shared
@@ -126,7 +132,7 @@ class Offline:
         """Asks calls, and returns their answers. Where the log is away they are executed here, and wait for it."""
         if not self.away:
             try:
-                return self.shared.write_all(calls, are_sure=True)
+                return self.shared.write_all(calls)
             except OutcomeUnknown as error:
                 self._leave(str(error))
         answers = self.shared.execute_here(calls)

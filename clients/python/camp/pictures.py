@@ -1,6 +1,7 @@
 """Pictures of a branch, as DOT for Graphviz: `python3 -m camp graph`, `picture` at a terminal.
 
-Up to `MOST_NAMED` patches are shown with their paths, up to `MOST_PATCHES` by their names, with the paths as tooltips. Of more, each
+Up to `MOST_NAMED` patches are shown with their paths, up to `MOST_PATCHES` by their names, with the paths as tooltips; what arrows and
+conflicts join is drawn as one part, and the parts stand in a grid. Of more, each
 group of patches that conflicts join is a cluster in a grid, with arrows between patches of clusters alone, and the others are
 counted by file in one table. A patch that more than `MOST_ARROWS` others need directly says how many need it, in place of the
 arrows; patches that are joined to nothing else are one node then, if they are many.
@@ -25,6 +26,8 @@ MOST_ALONE = 8
 MOST_CLUSTERS, MOST_IN_CLUSTER, MOST_FILES = 40, 12, 12
 # Of a patch: the paths that its second line has.
 MOST_PATHS = 2
+# Of a grid of parts: the rows for each column. A part is wider than it is high.
+ROWS_BY_COLUMNS = 1.5
 # Nodes that are no patches: no name has a blank.
 LEGEND, OTHERS = "a legend", "other patches"
 UNRESOLVED, RESOLVED = "#c62828", "#8d6e00"
@@ -62,8 +65,12 @@ def picture(ask: Ask, branch: str, names: Sequence[str] = (), only_open: bool = 
     patches = read_patches(ask, branch, names, only_open)
     title = "{}: {}, {}, {} unresolved".format(
         branch, counted(len(patches.needs), "patch"), counted(len(patches.conflicts), "conflict"), len(patches.unresolved))
-    body = _by_conflicts(patches) if len(patches.needs) > MOST_PATCHES else _by_patches(patches)
-    return "{}  label={}; labelloc=t;\n{}{}}}\n".format(HEAD, quoted(title), "".join(body), _legend(patches))
+    rows = _legend(patches)
+    if len(patches.needs) > MOST_PATCHES:
+        node = "  {} [shape=box, style=dotted, fontsize=9, label=<{}>];\n".format(quoted(LEGEND), _table(rows))
+        return "{}  label={}; labelloc=t;\n{}{}}}\n".format(HEAD, quoted(title), "".join(_by_conflicts(patches)), node)
+    label = _table(['<tr><td align="left">{}</td></tr>'.format(title), *rows])
+    return "{}  label=<{}>; labelloc=t;\n{}}}\n".format(HEAD, label, "".join(_by_patches(patches)))
 
 
 def read_patches(ask: Ask, branch: str, names: Sequence[str], only_open: bool) -> Patches:
@@ -153,18 +160,27 @@ def _hubs(needs: Dict[str, List[str]]) -> Dict[str, int]:
 
 
 def _by_patches(patches: Patches) -> List[str]:
-    hubs, states, found = _hubs(patches.needs), patches.states(), []
+    hubs, states = _hubs(patches.needs), patches.states()
     arrows = [(name, it) for name, on in patches.needs.items() for it in on if it not in hubs]
     folds = _folds(patches.needs, {name for arrow in arrows for name in arrow} | states.keys() | hubs.keys())
     folded = {name for names in folds.values() for name in names}
-    found += [_node(patches, name, hubs, states.get(name, "")) for name in patches.needs if name not in folded]
+    nodes = {name: _node(patches, name, hubs, states.get(name, "")) for name in patches.needs if name not in folded}
     for on, names in folds.items():
         title = "{} {}".format(counted(len(names), "patch"), "that need {}".format(some(on, MOST_PATHS)) if on else "that stand alone")
-        node = quoted("folded " + " ".join(on))
-        found.append("  {} [shape=folder, style=filled, fillcolor=gray95, label={}, tooltip={}];\n".format(node, quoted(title), quoted(", ".join(names))))
-        found += ["  {} -> {};\n".format(node, quoted(it)) for it in on]
-    found += ["  {} -> {};\n".format(*map(quoted, arrow)) for arrow in arrows]
-    return found + [_line(pair, patches.state_of(pair)) for pair in patches.conflicts]
+        node = "folded " + " ".join(on)
+        nodes[node] = "  {} [shape=folder, style=filled, fillcolor=gray95, label={}, tooltip={}];\n".format(
+            quoted(node), quoted(title), quoted(", ".join(names)))
+        arrows += [(node, it) for it in on]
+    lines = ["  {} -> {};\n".format(*map(quoted, arrow)) for arrow in arrows]
+    lines += [_line(pair, patches.state_of(pair)) for pair in patches.conflicts]
+    return [_grid_of_parts(len(nodes), [*arrows, *patches.conflicts]), *nodes.values(), *lines]
+
+
+def _grid_of_parts(nodes: int, lines: Sequence[Tuple[str, str]]) -> str:
+    """The grid in which the parts stand that lines join, of so many nodes."""
+    joined = clusters_of(lines)
+    parts = len(joined) + nodes - sum(map(len, joined))
+    return "  pack=14; packmode=array_{};\n".format(max(1, math.ceil(math.sqrt(ROWS_BY_COLUMNS * parts))))
 
 
 def _folds(needs: Dict[str, List[str]], shown: Set[str]) -> Dict[Tuple[str, ...], List[str]]:
@@ -193,10 +209,10 @@ def _line(pair: Conflict, state: str) -> str:
     return "  {} -> {} [{}, tooltip={}];\n".format(quoted(pair.left), quoted(pair.right), LINES[state], tip)
 
 
-def clusters_of(conflicts: Sequence[Conflict]) -> List[List[str]]:
-    """The groups of patches that conflicts join, in the order of their first pair."""
+def clusters_of(pairs: Sequence[Tuple[str, str]]) -> List[List[str]]:
+    """The groups of patches that pairs join, as conflicts do, in the order of their first pair."""
     group_of: Dict[str, List[str]] = {}
-    for pair in conflicts:
+    for pair in pairs:
         groups = [group_of.setdefault(name, [name]) for name in pair]
         if groups[0] is not groups[1]:
             groups[0].extend(groups[1])
@@ -207,12 +223,15 @@ def clusters_of(conflicts: Sequence[Conflict]) -> List[List[str]]:
 def _by_conflicts(patches: Patches) -> List[str]:
     """The groups that conflicts join in rows, the unresolved ones first, and how many other patches each file has."""
     states = patches.states()
-    clusters = sorted(clusters_of(patches.conflicts), key=lambda group: all(states[it] == "resolved" for it in group))
-    shown = clusters[:MOST_CLUSTERS]
+    by_state: Dict[str, List[List[str]]] = {"unresolved": [], "resolved": []}
+    for group in clusters_of(patches.conflicts):
+        by_state[_state_of(group, states)].append(group)
+    shown = (by_state["unresolved"] + by_state["resolved"])[:MOST_CLUSTERS]
+    hidden = {state: sum(it not in shown for it in groups) for state, groups in by_state.items()}
     node_of: Dict[str, str] = {}
     found = [line for at, group in enumerate(shown) for line in _cluster(patches, at, group, states, node_of)]
     rest = [name for name in patches.needs if name not in node_of]
-    found += _others(patches, rest, len(clusters) - len(shown)) if rest else []
+    found += _others(patches, rest, hidden) if rest else []
     found += _grid([node_of[group[0]] for group in shown], [OTHERS] if rest else [])
     return found + _arrows(patches.needs, node_of)
 
@@ -227,11 +246,17 @@ def _grid(nodes: Sequence[str], last: Sequence[str]) -> List[str]:
                                  for pair, how in [*weighed, *((it, "") for it in below)])]
 
 
+def _state_of(group: Sequence[str], states: Dict[str, str]) -> str:
+    """Whether a group of patches in conflict is resolved: all of them are."""
+    return "unresolved" if any(states[it] == "unresolved" for it in group) else "resolved"
+
+
 def _cluster(patches: Patches, at: int, group: Sequence[str], states: Dict[str, str], node_of: Dict[str, str]) -> List[str]:
     """A group of patches in conflict, with its files; one of many patches is a single node."""
-    is_open = any(states[it] == "unresolved" for it in group)
+    state = _state_of(group, states)
+    is_open = state == "unresolved"
     paths = list(dict.fromkeys(path for name in group for path in patches.paths[name]))
-    title = "{}: {}".format("unresolved" if is_open else "resolved", some(paths, MOST_PATHS))
+    title = "{}: {}".format(state, some(paths, MOST_PATHS))
     colour = UNRESOLVED if is_open else RESOLVED
     found = ['  subgraph cluster_{} {{\n    label={}; color="{}"; fontcolor="{}"; style=rounded; penwidth={};\n'.format(
         at, quoted(title), colour, colour, 2 if is_open else 1)]
@@ -248,7 +273,7 @@ def _cluster(patches: Patches, at: int, group: Sequence[str], states: Dict[str, 
     return [*found, "  }\n"]
 
 
-def _others(patches: Patches, names: Sequence[str], hidden: int) -> List[str]:
+def _others(patches: Patches, names: Sequence[str], hidden: Dict[str, int]) -> List[str]:
     """A table of the files that most of some patches change first, with how many these are, and what else is not shown."""
     counts: Dict[str, int] = {}
     for name in names:
@@ -258,8 +283,7 @@ def _others(patches: Patches, names: Sequence[str], hidden: int) -> List[str]:
     rows = [(path, counted(counts[path], "patch")) for path in largest[:MOST_FILES]]
     if len(largest) > MOST_FILES:
         rows.append((counted(len(largest) - MOST_FILES, "other file"), counted(sum(counts[path] for path in largest[MOST_FILES:]), "patch")))
-    if hidden > 0:
-        rows.append(("not shown", "{} of resolved conflicts".format(counted(hidden, "cluster"))))
+    rows += [("not shown", "{} of {} conflicts".format(counted(number, "cluster"), state)) for state, number in hidden.items() if number]
     cells = "".join('<tr><td align="left">{}</td><td align="left"><font color="gray30">{}</font></td></tr>'.format(escaped(path), text)
                     for path, text in rows)
     return ['  {} [shape=folder, style=filled, fillcolor=gray95, fontsize=9, tooltip={}, label=<'
@@ -279,19 +303,21 @@ def _arrows(needs: Dict[str, List[str]], node_of: Dict[str, str]) -> List[str]:
             for (one, other), count in counts.items()]
 
 
-def _legend(patches: Patches) -> str:
-    """What the lines and colours mean, of those that stand in the picture."""
-    rows = ["arrow: to what a patch needs"]
+def _legend(patches: Patches) -> List[str]:
+    """What the lines and colours mean, of those that stand in the picture, as rows of a table."""
     states = {patches.state_of(it) for it in patches.conflicts}
-    cell = '<tr><td align="left"><font color="{}">{}</font></td></tr>'
-    found = [cell.format("gray30", it) for it in rows]
+    cell = '<tr><td align="left"><font point-size="9" color="{}">{}</font></td></tr>'
+    found = [cell.format("gray30", "arrow: to what a patch needs")]
     if "unresolved" in states:
         found.append(cell.format(UNRESOLVED, "red, thick line: unresolved conflict"))
     if "resolved" in states:
         found.append(cell.format(RESOLVED, "brown, dashed line: resolved conflict"))
-    if any(count for count in _hubs(patches.needs).values()) and len(patches.needs) <= MOST_PATCHES:
+    if _hubs(patches.needs) and len(patches.needs) <= MOST_PATCHES:
         found.append(cell.format("gray30", "no arrows: more than {} need it directly".format(MOST_ARROWS)))
     if len(patches.needs) > MOST_PATCHES:
         found.append(cell.format("gray30", "box: patches in conflict; folder: all others, without arrows"))
-    table = '<table border="0" cellborder="0" cellspacing="0" cellpadding="1">{}</table>'.format("".join(found))
-    return '  {} [shape=box, style=dotted, fontsize=9, label=<{}>];\n'.format(quoted(LEGEND), table)
+    return found
+
+
+def _table(rows: Sequence[str]) -> str:
+    return '<table border="0" cellborder="0" cellspacing="0" cellpadding="1">{}</table>'.format("".join(rows))

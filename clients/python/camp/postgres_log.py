@@ -8,7 +8,7 @@ from typing import List
 import psycopg2
 from psycopg2 import errors
 
-from .logs import TIMEOUT, TITLE, AppendOutcome, Away, Foreign, in_order
+from .logs import TIMEOUT, TITLE, AppendOutcome, Away, Foreign, in_order, sealed, write_title
 
 # What ends a statement without a change, for certain: the server has said so, and rolled it back.
 REFUSALS = (errors.DiskFull, errors.ProgramLimitExceeded, errors.DataException, errors.ReadOnlySqlTransaction, errors.InsufficientPrivilege)
@@ -33,8 +33,7 @@ class PostgresLog:
             self._patiently(lambda cursor: self._rows(cursor, 0))
         except psycopg2.ProgrammingError:
             raise Foreign("the table {} is of another program".format(table)) from None
-        if self.append("log", title) is AppendOutcome.REFUSED:
-            raise Away("PostgreSQL refuses the title of the log")
+        write_title(self, title)
 
     def _base(self):
         """The connection of this thread; a new one where the last one was lost."""
@@ -70,7 +69,7 @@ class PostgresLog:
 
     def append(self, tag: str, text: bytes) -> AppendOutcome:
         def work(cursor):
-            self._locked(cursor, APPEND, tag, text)
+            self._locked(cursor, APPEND, tag, sealed(text))
             cursor.execute("SELECT pg_notify(%s, '')", (self.table,))
         try:
             self._transaction(work)

@@ -140,15 +140,14 @@ class Questions:
         """What calls would do: `repository.whatif.pull("ben", "main")`."""
         return WhatIf(self)
 
-    def _what_if(self, text: bytes) -> Outcome:
+    def _what_if(self, text: bytes, paths: Optional[Iterable[str]] = None) -> Outcome:
         """What a call would do; its refusal is raised. The library gives no cause of that, since nothing was refused."""
-        response = self._ask(b"whatif " + text)
+        response = self._ask(b"whatif " + text, paths)
         response.count("whatif")
-        lines = b"".join(line + b"\n" for line in response.rest())
-        words = Answer(lines).next_words()
+        words = response.next_words()
         if words[0] != "ok":
             raise error_of(words)
-        return answers.read_outcome(Answer(lines))
+        return answers.read_outcome(answers.number(words[-1]), response)
 
     def _listed(self, question: str, *words: Text) -> Answer:
         """The lines of the answer to a question, of which it says how many there are."""
@@ -166,13 +165,15 @@ class Questions:
             raise Unexpected(" ".join(words))
         return answer
 
-    def _ask(self, text: bytes) -> Answer:
-        """The response to one command, or what it raises."""
+    def _ask(self, text: bytes, paths: Optional[Iterable[str]] = None) -> Answer:
+        """The response to one command, or what it raises; with paths that to a `whatif`, with these files alone in its tree."""
         with self._lock:
             response = self._respond(text)
-            words = Answer(response).next_words()
+            answer = Answer(response if paths is None else answers.with_files(response, paths))
+            words = answer.next_words()
             if words[0] not in ("refused", "fault", "memory"):
-                return Answer(response)
+                answer.begin_again()
+                return answer
             raise error_of(words, "" if words[0] == "memory" else self._cause(text))
 
     def _cause(self, text: bytes) -> str:

@@ -13,8 +13,7 @@ Questions are answered at what was read. A call is answered once its entry stand
 so that all have one history.
 
 An entry of the log is text: `entry SEAT NUMBER`, and then up to 256 calls, each as a command of the language; before a call
-its note, if any, as comments: a line `#note TEXT` each. `Member` decides entries and does no input or output. It is a stand-in, over the
-library's repository, for the member that the library does not export yet."""
+its note, if any, as comments: a line `#note TEXT` each. The library decides entries, and does no input or output."""
 
 from __future__ import annotations
 
@@ -22,22 +21,24 @@ import collections
 import os
 import re
 import time
-from typing import Any, Deque, Dict, List, NamedTuple, Optional, Sequence, Tuple
+from typing import Any, Deque, Dict, List, Optional, Sequence, Tuple
 
+from ._member import Code, LogMember
 from .answers import AcceptedCall, Answer
 from .changes import Change, Text, record_command, to_bytes
 from .errors import Error, OutcomeUnknown, error_of
-from .logs import AppendOutcome, Away, Log, default_patience, limits_of
+from .logs import AppendOutcome, Away, Damaged, Log, default_patience, limits_of
 from .repository import Calls, Repository
 
-MAX_CALLS = 256
-MAX_BYTES = 1 << 20
 CALLS = (b"branch", b"record", b"pull", b"obliterate")
 NOTE = b"#note"
 # What ends the body of an edit, and of a group.
 ENDS = {b"edit": re.compile(rb"\nend\n"), b"group": re.compile(rb"\n[ \t]*done[ \t]*\n")}
 NOT_READ = b"the log ends before what was seen\n"
 NOT_TAKEN = b"the log refused the entry\n"
+STOPPED = b"stopped\n"
+# What is answered where there is no reply.
+NO_REPLY = {Code.REFUSED: NOT_TAKEN, Code.ENDED: NOT_READ, Code.STOPPED: STOPPED}
 
 
 class Stopped(Error):
@@ -53,17 +54,19 @@ class LogRefused(Error):
     """The log took nothing of what was asked, and never will: it is full, or the entry is too large. Nothing has changed."""
 
 
-class Request(NamedTuple):
-    """A command that a member was asked, and what its answer is returned with."""
-    call: bytes
-    at_least: int
-    request: Any
-    note: bytes
-    is_sure: bool
+def noted(call: bytes, note: bytes) -> bytes:
+    """A call as an entry has it, after its note."""
+    return b"".join(NOTE + b" " * bool(line) + line + b"\n" for line in note.split(b"\n") if note) + call
 
-    def text(self) -> bytes:
-        """The command as an entry has it, behind its note."""
-        return b"".join(NOTE + b" " * bool(line) + line + b"\n" for line in self.note.split(b"\n") if self.note) + self.call
+
+def parted(text: bytes) -> Tuple[bytes, bytes]:
+    """The call of a text, and the note before it."""
+    notes: List[bytes] = []
+    while text.startswith(b"#"):
+        line, _, text = text.partition(b"\n")
+        rest = line[len(NOTE):] if line.startswith(NOTE) else line
+        notes.append(rest[1:] if rest.startswith(b" ") else rest)
+    return text, b"\n".join(notes)
 
 
 def calls_of(body: bytes) -> List[Tuple[bytes, bytes]]:
@@ -113,59 +116,79 @@ def what_if(repository: Repository, call: bytes) -> bytes:
 
 
 class Member:
-    """Decides each entry of a log where it stands, each tag once. `answers` has (request, answer, place), in the order of requests;
-    a place is an index of the log and which call of the entry, or for what was answered at what was read the index alone."""
+    """A member of a log: the library decides each entry where it stands, each tag once, and says what it wants of the log. A
+    repository beside it has the accepted calls, for questions and notes. `answers` has (request, answer, place), in the order of
+    requests; a place is an index of the log and which call of the entry, or for what was answered at what was read the index alone."""
 
     def __init__(self, seat: Optional[str] = None):
         self.repository, self.seat = Repository(), seat or os.urandom(16).hex()
-        self.index, self.count, self.numbers = 0, 0, {}  # type: int, int, Dict[str, int]
-        self.under_way: List[Request] = []
-        self.queue: Deque[Request] = collections.deque()
+        self.index, self.count, self.is_appending = 0, 0, False
         self.answers: Deque[Tuple[Any, bytes, Any]] = collections.deque()
         self.stopped: Optional[Stopped] = None
         self.notes: Dict[str, bytes] = {}
+        # What decides, once the title is read; the requests that were asked before; and those without an answer, by their numbers.
+        self._decides: Optional[LogMember] = None
+        self._early: List[Tuple[int, bytes, int]] = []
+        self._waiting: Dict[int, Any] = {}
+        self._last = 0
 
-    def ask(self, call: bytes, at_least: int = 0, request: Any = None, note: bytes = b"", is_sure: bool = False) -> None:
-        """Asks a command: a call, with its note, or a question; at a history of so many calls at least. A call that is sure to be
-        accepted at what was read is not tried first."""
-        self.queue.append(Request(call, at_least, request, note, is_sure))
+    @property
+    def is_settled(self) -> bool:
+        """Whether each request has its answer, and the log can be read on."""
+        return not self._waiting and self.stopped is None
 
-    def number(self) -> int:
-        """The number of the next entry under this seat."""
-        return self.numbers.get(self.seat, 0) + 1
+    def ask(self, call: bytes, at_least: int = 0, request: Any = None, note: bytes = b"") -> None:
+        """Asks a call, with its note, or one of the questions `tree`, `conflicts` and `names`; at a history of so many calls at least."""
+        self._last += 1
+        self._waiting[self._last] = request
+        if self.stopped:
+            return self._answer(self._last, self._answer_here(call), self.index)
+        self._early.append((self._last, noted(call, note), at_least))
+        self._ask_early()
+
+    def _answer_here(self, call: bytes) -> bytes:
+        """The answer at what is here, where the log is read no further: a call that would be accepted has none."""
+        if call.split(None, 1)[0] not in CALLS:
+            return self.repository.ask(call)
+        answer = what_if(self.repository, call)
+        return STOPPED if answer.startswith(b"ok") else answer
+
+    def _ask_early(self) -> None:
+        """Asks what was asked before the title was read. What is no call, or has no room in an entry, is answered at once."""
+        while self._early and self._decides:
+            number, text, at_least = self._early.pop(0)
+            code = self._decides.ask(number, text, at_least)
+            if code is Code.NO_CALL:
+                self._answer(number, self._fault_of(text), self.index)
+            elif code is Code.TOO_LONG:
+                self._answer(number, NOT_TAKEN, self.index)
+
+    def _fault_of(self, text: bytes) -> bytes:
+        """Why a text is no call; a ValueError where it would be one in another form."""
+        answer = what_if(self.repository, text)
+        if answer.startswith(b"ok"):
+            raise ValueError("not in canonical form: {!r}".format(text))
+        return answer
+
+    def _answer(self, number: int, answer: bytes, place: Any) -> None:
+        self.answers.append((self._waiting.pop(number), answer, place))
 
     def want(self) -> Tuple:
         """What it wants of the log now: ("append", tag, text), ("read",) or ("nothing",)."""
-        self._proceed()
-        if self.under_way:
-            head = b"entry %s %d\n" % (self.seat.encode(), self.number())
-            return "append", "{}/{}".format(self.seat, self.number()), head + b"".join(it.text() for it in self.under_way)
-        return ("read",) if self.queue else ("nothing",)
+        if self._decides is None:
+            return ("read",) if self._waiting else ("nothing",)
+        code, number, text = self._decides.want()
+        self.is_appending = code is Code.APPEND
+        self._take_answers()
+        if code is Code.APPEND:
+            return "append", "{}/{}".format(self.seat, number), text
+        return ("read",) if code is Code.READ else ("nothing",)
 
-    def _proceed(self) -> None:
-        if self.under_way:
-            return
-        while self.queue:
-            call, at_least, request, _, is_sure = self.queue[0]
-            if at_least > self.count and not self.stopped:
-                return
-            question = call.split(None, 1)[0] not in CALLS
-            if is_sure and not question and not self.stopped:
-                break
-            answer = self.repository.ask(call) if question else what_if(self.repository, call)
-            if not question and answer.startswith(b"ok"):
-                if not self.stopped:
-                    break
-                answer = b"stopped\n"
-            self.queue.popleft()
-            self.answers.append((request, answer, self.index))
-        room = MAX_BYTES - 100
-        while self.queue and len(self.under_way) < MAX_CALLS and not self.stopped:
-            first, length = self.queue[0], len(self.queue[0].text())
-            if first.call.split(None, 1)[0] not in CALLS or first.at_least > self.count or (self.under_way and length > room):
-                break
-            self.under_way.append(self.queue.popleft())
-            room -= length
+    def _take_answers(self, index: Optional[int] = None) -> None:
+        """Takes what was answered, at what was read or by the entry at an index."""
+        assert self._decides
+        for place, (number, answer) in enumerate(self._decides.answers()):
+            self._answer(number, NO_REPLY.get(answer, answer), self.index if index is None else (index, place))
 
     def found(self, index: int, text: bytes) -> None:
         """Takes what stands at an index of the log, in order."""
@@ -173,40 +196,35 @@ class Member:
             return
         assert index == self.index
         if index == 0:
-            try:
-                self.repository.begin_again(**limits_of(text))
-            except ValueError:
-                self._stop("no title of a log of camp")
-            self.index = 1
-            return
-        head, _, body = text.partition(b"\n")
-        words, calls = head.split(b" "), calls_of(body)
-        if len(words) != 3 or words[0] != b"entry" or not words[2].isdigit() or not 1 <= len(calls) <= MAX_CALLS:
-            self._stop("a foreign entry")
-        if any(call.split(None, 1)[:1] not in [[word] for word in CALLS] for call, _ in calls):
-            self._stop("a foreign entry")
-        seat, number = words[1].decode("ascii", "replace"), int(words[2])
-        last = self.numbers.get(seat, 0)
-        if not 1 <= number <= last + 1:
-            self._stop("a foreign entry")
-        own = number == last + 1 and seat == self.seat
-        if own and calls != [(it.call, it.note) for it in self.under_way]:
-            self._stop("an entry of another process with this seat")
-        if number == last + 1:
-            self._decide(calls, self.under_way if own else None)
-            self.numbers[seat] = number
-            self.under_way = [] if own else self.under_way
+            self._open(text)
+        else:
+            assert self._decides
+            if self._decides.found(index, text) is Code.FOREIGN:
+                is_own = text.startswith(b"entry %s " % self.seat.encode())
+                self._stop("an entry of another process with this seat" if is_own else "a foreign entry")
+            self._keep_accepted()
+            self._take_answers(index)
         self.index += 1
 
-    def _decide(self, calls: Sequence[Tuple[bytes, bytes]], asked: Optional[List[Request]]) -> None:
-        """Executes the calls of an entry, all at once: each has one line for an answer."""
-        answers = self.repository.ask(b"".join(call for call, _ in calls)).splitlines(keepends=True)
-        if len(answers) != len(calls):
-            self._stop("a foreign entry")
-        for place, ((call, note), answer) in enumerate(zip(calls, answers)):
+    def _open(self, title: bytes) -> None:
+        try:
+            self.repository.begin_again(**limits_of(title))
+            self._decides = LogMember(self.seat, title)
+        except ValueError:
+            self._stop("no title of a log of camp")
+        self._ask_early()
+
+    def _keep_accepted(self) -> None:
+        """Executes the calls that were accepted in the last entry in the repository too, and keeps their notes."""
+        assert self._decides
+        texts = [self._decides.call(at) for at in range(self.count, self._decides.accepted)]
+        if not texts:
+            return
+        answers = self.repository.ask(b"".join(texts)).splitlines(keepends=True)
+        assert len(answers) == len(texts)
+        for text, answer in zip(texts, answers):
+            call, note = parted(text)
             self._keep(call, note, answer)
-            if asked is not None:
-                self.answers.append((asked[place].request, answer, (self.index, place)))
 
     def _keep(self, call: bytes, note: bytes, answer: bytes) -> None:
         """Counts an accepted call, and keeps its note."""
@@ -223,18 +241,33 @@ class Member:
 
     def _stop(self, why: str) -> None:
         self.stopped = Stopped(self.index, why)
-        self.refused(b"stopped\n")
+        if self._decides:
+            self.want()
         raise self.stopped
 
-    def refused(self, answer: bytes = NOT_TAKEN) -> None:
+    def refused(self) -> None:
         """Takes that the log has nothing of what is under way, and never will."""
-        self.answers.extend((it.request, answer, self.index) for it in self.under_way)
-        self.under_way = []
+        if self._decides:
+            self._decides.refused()
+            self._take_answers()
 
     def ended(self, index: int) -> None:
         """Takes that the log ends at an index: what wants more is answered so."""
-        if index == self.index and self.queue and not self.under_way and self.queue[0].at_least > self.count:
-            self.answers.append((self.queue.popleft().request, NOT_READ, index))
+        if self._decides:
+            self._decides.ended(index)
+            self._take_answers()
+
+    def take_seat(self) -> None:
+        """Goes on under a new seat: a process that was forked may go on with the old one."""
+        assert self.is_settled
+        self.seat = os.urandom(16).hex()
+        if self._decides:
+            self._decides.take_seat(self.seat)
+
+    def close(self) -> None:
+        """Gives up what it holds."""
+        if self._decides:
+            self._decides.close()
 
 
 def turn(member: Member, log: Log, wait: float = 0.2) -> bool:
@@ -246,8 +279,8 @@ def turn(member: Member, log: Log, wait: float = 0.2) -> bool:
         if want[0] == "append" and log.append(want[1], want[2]) is AppendOutcome.REFUSED:
             member.refused()
             return True
-        if want[0] == "read":
-            length = log.length()
+        if want[0] == "read" and (length := log.length()) < member.index:
+            raise Damaged(length)
         for text in log.read(member.index, wait):
             member.found(member.index, text)
         if length is not None and length <= member.index:
@@ -290,17 +323,19 @@ class Shared(Calls):
     @property
     def is_settled(self) -> bool:
         """Whether it has just what was read of the log, and nothing is under way."""
-        return not self._member.under_way and not self._member.queue and self._member.stopped is None
+        return self._member.is_settled
 
     def go_on_with(self, log: Log) -> None:
         """Takes another connection to the same log, and a new seat: a process that was forked may go on with the old one."""
-        assert self.is_settled
-        self._log, self._member.seat = log, os.urandom(16).hex()
+        self._log = log
+        self._member.take_seat()
 
     def sync(self) -> int:
         """Reads all that the log has now, and returns how many calls were accepted in that. `Away` is raised where no engine
         answers, `Stopped` and `Damaged` where the log can't be read."""
         length = self._log.length()
+        if length < self._member.index:
+            raise Damaged(length)
         end = time.monotonic() + self._patience
         while self._member.index < length:
             for text in self._log.read(self._member.index, 0.2):
@@ -322,14 +357,13 @@ class Shared(Calls):
                 here += call
         return answers + (self._member.repository.ask(here) if here else b"")
 
-    def write_all(self, calls: Sequence[Tuple[bytes, bytes]], are_sure: bool = False) -> List[bytes]:
+    def write_all(self, calls: Sequence[Tuple[bytes, bytes]]) -> List[bytes]:
         """Asks calls, each a command and its note, in as few entries as they fit in, and returns the answer of each; a refusal is
-        an answer as any other, and those after it are asked all the same. Calls that are sure to be accepted, as far as was read,
-        are not tried before they are written."""
+        an answer as any other, and those after it are asked all the same."""
         member, first = self._member, self._asked
         self._asked += len(calls)
         for at, (call, note) in enumerate(calls, first):
-            member.ask(call, 0, at, note, are_sure)
+            member.ask(call, 0, at, note)
         answers: Dict[int, bytes] = {}
         end = time.monotonic() + self._patience
         while len(answers) < len(calls):
@@ -346,9 +380,14 @@ class Shared(Calls):
     def settle(self) -> bool:
         """Asks again what is under way and nobody waits for, and returns whether nothing is left of it."""
         end = time.monotonic() + self._patience
-        while self._member.under_way and time.monotonic() < end:
+        while self._member.is_appending and time.monotonic() < end:
             turn(self._member, self._log)
-        return not self._member.under_way
+        return not self._member.is_appending
+
+    def close(self) -> None:
+        """Closes it. What is closed stays so."""
+        self._member.close()
+        super().close()
 
     def execute_here(self, calls: Sequence[Tuple[bytes, bytes]]) -> List[bytes]:
         """Executes calls here alone, as if the log had them next, and returns their answers. From then on this object shows what
@@ -376,6 +415,6 @@ class Shared(Calls):
         (answer,) = self.write_all([(call, note)])
         if answer == NOT_TAKEN:
             raise LogRefused("the log refuses the entry: its disk or its space is full, or the entry is too large")
-        if answer == b"stopped\n" and self._member.stopped:
+        if answer == STOPPED and self._member.stopped:
             raise self._member.stopped
         return answer

@@ -4,21 +4,28 @@ A question about a conflict is about a path of camp; a file of `camp.coding` has
 
 from __future__ import annotations
 
-from typing import Dict, Iterable, List, Optional, Union
+from typing import Callable, Dict, Iterable, List, Optional, Union
 
 from .answers import Conflict, Hunk, HunkSide
-from .changes import Add, Change, Edit, Remove, apply
+from .changes import Add, Change, Edit, Remove, Text, apply, to_bytes
 from .coding import File, decode, file_name
 from .questions import Questions
 
 Hunks = List[Union[bytes, Hunk]]
 Unresolved = Dict[str, List[Conflict]]
+# What lines of marks begin with.
+START, SIDE, END = b"<<<<<<< ", b"======= ", b">>>>>>> "
+
+
+def open_pairs(of: Questions, branch: str) -> List[Conflict]:
+    """The unresolved conflicts. Whether there are conflicts at all is asked first, since that takes less time."""
+    return of.open(branch) if of.conflicts(branch) else []
 
 
 def unresolved(of: Questions, branch: str) -> Unresolved:
     """The unresolved conflicts, by the paths that both sides would change."""
     found: Unresolved = {}
-    pairs = of.open(branch)
+    pairs = open_pairs(of, branch)
     paths = {name: {change.path for change in of.side(branch, name)} for name in dict.fromkeys(name for pair in pairs for name in pair)}
     for pair in pairs:
         left, right = paths[pair.left], paths[pair.right]
@@ -50,6 +57,26 @@ def hunks(of: Questions, branch: str, path: str, pairs: Iterable[Conflict]) -> H
         if lines is not None:
             sides.append(HunkSide(name, lines))
     return [Hunk([], sides)]
+
+
+def marked(some: Hunks, described: Callable[[str], Text], advice: Text) -> List[bytes]:
+    """The lines of a file with marks round its hunks: the lines as they are now, and those of each side after a line that describes its
+    patch; the last mark has the advice."""
+    lines: List[bytes] = []
+    for hunk in some:
+        if isinstance(hunk, bytes):
+            lines.append(hunk)
+            continue
+        lines += [START + b"as it is now", *hunk.lines]
+        for side in hunk.sides:
+            lines += [SIDE + to_bytes(described(side.name)), *side.lines]
+        lines.append(END + to_bytes(advice))
+    return lines
+
+
+def first_mark(content: bytes) -> Optional[int]:
+    """The number of the first line that is a mark."""
+    return next((number for number, line in enumerate(content.split(b"\n"), 1) if line.startswith((START, SIDE, END))), None)
 
 
 def take_side(of: Questions, branch: str, file: bytes, name: str, found: Unresolved) -> Optional[File]:

@@ -26,9 +26,9 @@ class WhatIf:
         """What `Repository.record` would do."""
         return self._of._what_if(record_command(branch, name, changes))
 
-    def pull(self, origin: str, to: str, names: Optional[Iterable[str]] = None) -> Outcome:
-        """What `Repository.pull` would do."""
-        return self._of._what_if(pull_command(self._of, origin, to, names))
+    def pull(self, origin: str, to: str, names: Optional[Iterable[str]] = None, *, paths: Optional[Iterable[str]] = None) -> Outcome:
+        """What `Repository.pull` would do. With paths the tree has these files alone, which takes less time."""
+        return self._of._what_if(pull_command(self._of, origin, to, names), paths)
 
     def obliterate(self, branch: str, names: Iterable[str]) -> Outcome:
         """What `Repository.obliterate` would do."""

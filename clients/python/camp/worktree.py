@@ -4,12 +4,13 @@ Files are those of `camp.coding`. What stands in `.camp` or `.git`, and what `.c
 
 from __future__ import annotations
 
+import contextlib
 import os
 import shutil
 import stat
 import time
 from fnmatch import fnmatchcase
-from typing import Dict, Iterator, List, Optional, Set, Tuple
+from typing import Dict, Iterable, Iterator, List, Optional, Set, Tuple
 
 from .coding import EXECUTABLE, LINK, PLAIN, SUBMODULE, File, Files
 from .errors import Error
@@ -19,6 +20,8 @@ OWN = b".camp"
 Stamp = Tuple[int, ...]
 # Names that are never files of a tree: what stands there is of the program that keeps the folder, or of git.
 RESERVED = (OWN, b".git")
+# Up to so many paths are looked for among all files one by one.
+FEW = 8
 
 
 class InTheWay(Error):
@@ -86,11 +89,12 @@ def _stamp_of(entry: os.DirEntry[bytes]) -> Stamp:
 def scan(top: bytes, base: Files, unchanged: Optional[Dict[bytes, Stamp]] = None) -> Files:
     """The files of the working tree; those that are ignored count where the base has them. A file whose stamp is in `unchanged` is as in
     the base and is not read; the stamps of those that were read and are so are put there."""
-    ignored, folders, stamps = Ignored(top), _folders(base), {} if unchanged is None else unchanged
+    ignored, stamps = Ignored(top), {} if unchanged is None else unchanged
+    folders = _folders(base) if ignored.patterns else set()
     found = {path: file for path, file in base.items() if file.mode == SUBMODULE}
     # A file that was changed just now may be changed once more within the resolution of its times.
     latest = time.time_ns() - 3_000_000_000
-    for path, entry in _walk(top, b"", ignored, folders):
+    for path, entry in _walk(top, ignored, folders):
         if path not in base and ignored.has(path, False):
             continue
         stamp = _stamp_of(entry) if path in base else ()
@@ -116,16 +120,20 @@ def _folders(base: Files) -> Set[bytes]:
     return folders
 
 
-def _walk(top: bytes, folder: bytes, ignored: Ignored, folders: Set[bytes]) -> Iterator[Tuple[bytes, os.DirEntry[bytes]]]:
-    with os.scandir(os.path.join(top, folder)) as entries:
-        for entry in entries:
-            path = folder + b"/" + entry.name if folder else entry.name
-            if entry.name.lower() in RESERVED:
-                continue
-            if not entry.is_dir(follow_symlinks=False):
-                yield path, entry
-            elif path in folders or not ignored.has(path, True):
-                yield from _walk(top, path, ignored, folders)
+def _walk(top: bytes, ignored: Ignored, folders: Set[bytes]) -> Iterator[Tuple[bytes, os.DirEntry[bytes]]]:
+    """The files below a folder, without those in folders that are ignored, unless it is one of these."""
+    left = [b""]
+    while left:
+        before = left.pop()
+        with os.scandir(os.path.join(top, before)) as entries:
+            for entry in entries:
+                path = before + entry.name
+                if entry.name.lower() in RESERVED:
+                    continue
+                if not entry.is_dir(follow_symlinks=False):
+                    yield path, entry
+                elif path in folders or not ignored.has(path, True):
+                    left.append(path + b"/")
 
 
 def changed(before: Files, after: Files) -> List[bytes]:
@@ -133,17 +141,26 @@ def changed(before: Files, after: Files) -> List[bytes]:
     return sorted(path for path in before.keys() | after.keys() if before.get(path) != after.get(path))
 
 
-def check_names(files: Files) -> None:
-    """`InTheWay` where a working tree can't have files of these names."""
-    for path, file in sorted(files.items()):
-        parts = path.split(b"/")
+def _are_folders(files: Files, paths: List[bytes]) -> Set[bytes]:
+    """Those of some paths that have files below them."""
+    if len(paths) > FEW:
+        return _folders(files).intersection(paths)
+    return {path for path in paths if any(it.startswith(path + b"/") for it in files)}
+
+
+def check_names(files: Files, paths: Iterable[bytes]) -> None:
+    """`InTheWay` where a working tree can't have these paths among its files."""
+    added = sorted(path for path in paths if path in files)
+    folders = _are_folders(files, added)
+    for path in added:
+        parts, file = path.split(b"/"), files[path]
         if file.mode == LINK and (not file.content or b"\0" in file.content):
             raise InTheWay("{}: a symbolic link can't lead there".format(text(path)))
         if any(part in (b"", b".", b"..") or part.lower() in RESERVED or b"\0" in part or len(part) > 255 for part in parts):
             raise InTheWay("{}: a working tree can't have a file of this name".format(text(path)))
-        for at in range(1, len(parts)):
-            if b"/".join(parts[:at]) in files:
-                raise InTheWay("{} is a file and a folder: a working tree can't have both".format(text(b"/".join(parts[:at]))))
+        for way in [b"/".join(parts[:at]) for at in range(1, len(parts))] + [path] * (path in folders):
+            if way in files:
+                raise InTheWay("{} is a file and a folder: a working tree can't have both".format(text(way)))
 
 
 class Update:
@@ -153,7 +170,7 @@ class Update:
         self.top, self.before, self.after = top, before, after
         self.paths = changed(before, after) if paths is None else paths
         self.stage = os.path.join(top, OWN, b"stage")
-        check_names(after)
+        check_names(after, self.paths)
         self._check_ways()
         try:
             self._write_aside()
@@ -191,43 +208,72 @@ class Update:
                 os.chmod(place, os.stat(place).st_mode | 0o111)
 
     def install(self) -> None:
-        """Moves the new files to their places, and takes the old ones away."""
-        for path in sorted((it for it in self.paths if it not in self.after or self._is_folder(it)), reverse=True):
-            self._remove(path)
+        """Moves the new files to their places, and removes the old ones."""
+        with self.installed():
+            pass
+
+    @contextlib.contextmanager
+    def installed(self) -> Iterator[None]:
+        """Moves the new files to their places, and the old ones aside. They are moved back if that or the block fails, which takes no
+        room on the disk, and removed if not."""
+        try:
+            self._move()
+            yield
+        except BaseException:
+            self._move_back()
+            raise
+        finally:
+            shutil.rmtree(self.stage, ignore_errors=True)
+
+    def _staged(self, number: int) -> Tuple[bytes, bytes]:
+        """Where the new file of a path is before it is moved, and the old one after that."""
+        return os.path.join(self.stage, b"%d" % number), os.path.join(self.stage, b"old-%d" % number)
+
+    def _move(self) -> None:
+        for number, path in sorted(enumerate(self.paths), key=lambda it: it[1], reverse=True):
+            self._remove(path, self._staged(number)[1])
         for number, path in enumerate(self.paths):
-            place = os.path.join(self.stage, b"%d" % number)
-            if path in self.after and os.path.lexists(place):
-                os.makedirs(os.path.dirname(os.path.join(self.top, path)), exist_ok=True)
-                os.replace(place, os.path.join(self.top, path))
-        shutil.rmtree(self.stage, ignore_errors=True)
+            place, new = os.path.join(self.top, path), self._staged(number)[0]
+            if os.path.lexists(new):
+                os.makedirs(os.path.dirname(place), exist_ok=True)
+                os.replace(new, place)
+
+    def _move_back(self) -> None:
+        for number, path in enumerate(self.paths):
+            new = self._staged(number)[0]
+            if path in self.after and self.after[path].mode != SUBMODULE:
+                self._remove(path, None if os.path.lexists(new) else new)
+        for number, path in enumerate(self.paths):
+            place, old = os.path.join(self.top, path), self._staged(number)[1]
+            if os.path.lexists(old):
+                os.makedirs(os.path.dirname(place), exist_ok=True)
+                os.replace(old, place)
 
     def _is_folder(self, path: bytes) -> bool:
         place = os.path.join(self.top, path)
         return os.path.isdir(place) and not os.path.islink(place)
 
-    def _remove(self, path: bytes) -> None:
-        """Removes a file, and the folders that it leaves empty."""
+    def _remove(self, path: bytes, aside: Optional[bytes]) -> None:
+        """Moves a file aside, if it is there and None is not given, and removes the folders that are empty then, up from it."""
         place = os.path.join(self.top, path)
-        if os.path.lexists(place) and not self._is_folder(path):
-            os.unlink(place)
+        if aside is not None and os.path.lexists(place) and not self._is_folder(path):
+            os.replace(place, aside)
         folder = place if self._is_folder(path) else os.path.dirname(place)
         while folder != self.top and os.path.isdir(folder) and not any(os.scandir(folder)):
             os.rmdir(folder)
             folder = os.path.dirname(folder)
 
 
-def finish(top: bytes, before: Files, after: Files, is_record: bool) -> Dict[bytes, bytes]:
-    """Ends an update that was interrupted: files that are as before become those after. What was changed since is left where it
-    was recorded, else moved aside; the answer has these, and where they are now."""
+@contextlib.contextmanager
+def finished(top: bytes, before: Files, after: Files, is_record: bool) -> Iterator[Dict[bytes, bytes]]:
+    """Ends an update that was interrupted: files that are as before become those after; they are as before again if the block fails. What
+    was changed since is left where it was recorded, else moved aside: the result has these, and where they are now."""
     moved: Dict[bytes, bytes] = {}
     old = {path: read_file(top, path) for path in changed(before, after)}
-    todo = [path for path, file in old.items() if file != after.get(path)]
-    others = [path for path in todo if old[path] != before.get(path)]
-    if is_record:
-        return moved
-    for path in others:
-        if old[path] is not None:
+    todo = [] if is_record else [path for path, file in old.items() if file != after.get(path)]
+    for path in todo:
+        if old[path] is not None and old[path] != before.get(path):
             moved[path] = path + b".saved"
             os.replace(os.path.join(top, path), os.path.join(top, moved[path]))
-    Update(top, before, after, todo).install()
-    return moved
+    with Update(top, before, after, todo).installed():
+        yield moved

@@ -19,6 +19,8 @@ pub enum Error {
     Fault(Fault),
     /// A text is no name, path or line; nothing was asked.
     Malformed(Malformed),
+    /// The log of a shared repository does not take the call, or cannot be read.
+    Log(LogError),
     /// The library answers in a form that this crate does not know.
     Unexpected(Answer),
 }
@@ -44,12 +46,53 @@ impl fmt::Display for Error {
             Error::Refused(refused) => write!(f, "refused: {}", refused.refusal),
             Error::Fault(fault) => write!(f, "{fault}"),
             Error::Malformed(malformed) => write!(f, "{malformed}"),
+            Error::Log(error) => write!(f, "{error}"),
             Error::Unexpected(answer) => write!(f, "unexpected answer: {answer}"),
         }
     }
 }
 
 impl std::error::Error for Error {}
+
+/// What is wrong with the log of a shared repository.
+#[derive(Clone, Debug, PartialEq, Eq)]
+pub enum LogError {
+    /// The log does not answer. Nothing is done, unless a call was on its way: see [`LogError::Unknown`].
+    Away(String),
+    /// The log does not answer after a call was sent to it: the call may be done, or may still come to be.
+    Unknown,
+    /// The log refuses the entry: its disk is full, or the entry is too large. Nothing is done.
+    Refused,
+    /// At this index of the log is no entry of a member, or one of another process with this seat. Questions are answered
+    /// at the calls before it.
+    Stopped(usize),
+    /// The first entry is no title of a log of camp, or the file is of another program.
+    NoLog(String),
+}
+
+impl fmt::Display for LogError {
+    fn fmt(&self, f: &mut fmt::Formatter<'_>) -> fmt::Result {
+        match self {
+            LogError::Away(why) => write!(f, "the log does not answer: {why}"),
+            LogError::Unknown => {
+                f.write_str("the log does not answer: the call may be done, or may still come to be")
+            }
+            LogError::Refused => f.write_str(
+                "the log refuses the entry: its disk or its space is full, or the entry is too large",
+            ),
+            LogError::Stopped(index) => {
+                write!(f, "a foreign entry, or one of another process with this seat, at entry {index} of the log")
+            }
+            LogError::NoLog(why) => write!(f, "no log of camp: {why}"),
+        }
+    }
+}
+
+impl From<LogError> for Error {
+    fn from(error: LogError) -> Error {
+        Error::Log(error)
+    }
+}
 
 impl From<Malformed> for Error {
     fn from(malformed: Malformed) -> Error {

@@ -16,26 +16,38 @@
 //! ```
 //!
 //! A [`View`] shows a repository as it was at one moment. It may go to another thread, and answers questions while the
-//! repository goes on. What is not done is an [`Error`]: a [`Refusal`] has the core's name, and its cause beside it.
+//! repository goes on. A [`Shared`] repository is one that many processes share over a [`Log`]. What is not done is an [`Error`]: a [`Refusal`] has the core's name, and its cause beside it.
 #![deny(unsafe_code, missing_docs)]
 
 mod answers;
 mod changes;
+#[cfg(feature = "sqlite")]
+mod checksums;
 mod conflicts;
 mod errors;
 mod names;
 mod questions;
+#[cfg(feature = "sqlite")]
+mod queue;
 mod raw;
 mod repository;
 mod results;
+mod shared;
+#[cfg(feature = "sqlite")]
+mod sqlite;
+#[cfg(feature = "sqlite")]
+mod sqlite_log;
 mod trees;
 
 pub use answers::Answer;
 pub use changes::Change;
 pub use conflicts::{Conflict, Hunk, HunkSide, Part};
-pub use errors::{Error, Fault, Refusal, Refused};
+pub use errors::{Error, Fault, LogError, Refusal, Refused};
 pub use names::{FilePath, Line, Malformed, Name};
 pub use questions::{Questions, WhatIf};
 pub use repository::{Repository, View};
 pub use results::{AcceptedCall, AnnotatedLine, Outcome, Shown};
+pub use shared::{Appended, Log, Shared};
+#[cfg(feature = "sqlite")]
+pub use sqlite_log::SqliteLog;
 pub use trees::Tree;

@@ -117,6 +117,10 @@ impl Questions for Repository {
 pub struct View(RawView);
 
 impl View {
+    pub(crate) fn of(raw: RawView) -> View {
+        View(raw)
+    }
+
     /// One more view of the same.
     pub fn again(&mut self) -> Result<View, Error> {
         Ok(View(self.0.again()?))

@@ -10,8 +10,8 @@ Answers Change old (Ok done) new = Change old new
 Answers Change old (Err DoesNotApply) new = ((any : _) → ¬ (Change old any)) × (new ≡ old)
 Answers Change old (Err Memory) new = ((any : _) × Change old any) × (new ≡ old)
 
--- the same if only a trial that allocates can decide whether the change applies: any result may be out of memory
--- instead
+-- `Answers` for a change that has to be tried, which allocates, to find whether it applies: any result may be out of
+-- memory instead
 abbrev pub AnswersByTrial : {S : Type 0} → (S → S → Type 0) → S → Result (Unit {0}) Apply → S → Type 0
 AnswersByTrial Change old (Ok done) new = Change old new
 AnswersByTrial Change old (Err DoesNotApply) new = ((any : _) → ¬ (Change old any)) × (new ≡ old)
@@ -22,11 +22,11 @@ abbrev pub Changes : {S : Type 0} → (S → S → Type 0) → S → Bool → S 
 Changes Change old true new = Change old new
 Changes Change old false new = ((any : _) → ¬ (Change old any)) × (new ≡ old)
 
--- Some: a value in the relation. None: no value is in it
+-- Some: a value that is in the relation. None: no value is in the relation
 abbrev pub Finds : {X : Type 0} → (X → Type 0) → Option X → Type 0
 Finds Result None = (any : _) → ¬ (Result any)
 Finds Result (Some found) = Result found
 
--- the same for a pair of values
+-- `Finds` for a pair of values
 abbrev pub FindsPair : {X Y : Type 0} → (X → Y → Type 0) → Option (X × Y) → Type 0
 FindsPair Results found = Finds (λ pair. Results pair.0 pair.1) found

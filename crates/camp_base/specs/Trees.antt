@@ -30,7 +30,7 @@ pub record SplicesLines (line : ℕ) (gone come old new : Lines) : Type 0 where
   pub was : old ≡ before ++ gone ++ after
   pub becomes : new ≡ before ++ come ++ after
 
--- the same in the file at a path; all other paths are unchanged
+-- replacing the lines `gone` by `come` at a line of the file at a path; all other files are unchanged
 pub record Splices (path : List ℕ) (line : ℕ) (gone come : Lines) (old new : Files) : Type 0 where
   pub lines : Lines
   pub changed : Lines

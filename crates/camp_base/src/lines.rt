@@ -11,13 +11,18 @@ ghost use Rattle.camp_base.specs.declared.faults.BaseFault.TheVariants as fault;
 
 use crate::{BaseFault, MAX_LINE_LENGTH};
 use camp_share::{Share, Shared};
+use smallvec::SmallVec;
 use std::alloc::{AllocError, Global};
 use std::marker::Model;
+
+/// The most bytes of a line that are stored inline, next to its reference count; a longer line has an allocation of its
+/// own.
+const INLINE_BYTES: usize = 48;
 
 /// A line of a file without its line feed: 0 to 4,096 bytes, none of them LF.
 #[derive(Debug, Drop)]
 pub struct Line {
-    bytes: Shared<Vec<u8>>,
+    bytes: Shared<SmallVec<u8, INLINE_BYTES>>,
 }
 
 impl Model for Line {
@@ -39,7 +44,7 @@ impl Line {
         if !is_line(bytes) {
             return Err(BaseFault::BadLine);
         }
-        let bytes = Shared::new(alloc, Vec::from_slice(alloc, bytes)?)?;
+        let bytes = Shared::new(alloc, SmallVec::from_slice(alloc, bytes)?)?;
         Ok(Line { bytes })
     }
 
@@ -48,7 +53,7 @@ impl Line {
         ensures value { result.now ≡ self.now }
         ensures form { IsTrue (is_line self.now) }
     {
-        &self.bytes
+        self.bytes.as_slice()
     }
 
     /// Copies the line: increments one reference count; does not allocate.

@@ -17,16 +17,21 @@ ghost use Rattle.camp_base.specs.declared.faults.BaseFault.TheVariants as fault;
 use crate::bytes::order;
 use crate::{BaseFault, MAX_PATH_LENGTH};
 use camp_share::{Key, Share, Shared};
+use smallvec::SmallVec;
 use std::alloc::{AllocError, Global};
 use std::cmp::Ordering;
 use std::marker::Model;
 use std::{fmt, str};
 
+/// The most bytes of a path that are stored inline, next to its reference count; a longer path has an allocation of its
+/// own.
+const INLINE_BYTES: usize = 48;
+
 /// The path of a file: 1 to 200 bytes from 0x21 to 0x7e. The components between `/` are not empty, not `.`
 /// and not `..`. Paths are plain keys, ordered by their bytes: `d` and `d/e` may both be files.
 #[derive(Debug, Drop)]
 pub struct Path {
-    bytes: Shared<Vec<u8>>,
+    bytes: Shared<SmallVec<u8, INLINE_BYTES>>,
     // The last eight bytes as a big-endian number, padded with zeros. No byte of a path is zero, so paths
     // with different numbers differ, and paths of up to eight bytes are equal if their numbers are.
     tail: u64,
@@ -53,7 +58,7 @@ impl Path {
             return Err(BaseFault::BadPath);
         }
         let tail = tail_of(bytes);
-        let bytes = Shared::new(alloc, Vec::from_slice(alloc, bytes)?)?;
+        let bytes = Shared::new(alloc, SmallVec::from_slice(alloc, bytes)?)?;
         Ok(Path { bytes, tail })
     }
 
@@ -62,7 +67,7 @@ impl Path {
         ensures value { result.now ≡ self.now }
         ensures form { IsTrue (is_path self.now) }
     {
-        &self.bytes
+        self.bytes.as_slice()
     }
 
     /// Copies the path: increments one reference count; does not allocate.

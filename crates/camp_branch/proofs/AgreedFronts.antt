@@ -1,5 +1,5 @@
 -- If prefixes of two branches agree, a pull depends only on the catches after them.
-use Rattle.camp_branch.proofs.Words.{◌≡◌, ◌≤◌, ◌+◌, ℕ, Bool, true, ◌||◌, Ok, Err, List, [], ◌∷◌, ◌++◌, map, bytes_eq, take, drop, length, slice_range, ◌-◌, refl, sym, ap, ◌∙◌, subst, inl, inr, arith, append_assoc, length-append, length-take-le, take-append-drop, take-append-le, Key, Align, AlignIsBlocked, Arrange, ArrangeIsBlocked, ComesFirst, IsOf, Catch, keep_labels, Agree, has_patch, is_among, name_of, DiffersAt, MergedLast, MergesAfterCommon, Outcome, PullBy, PullGives, SameThen, common_names, Blocked, Contains, catch_key, keys_of, AllByRecursion, or_assoc, or_comm, or_left, and_from}
+use Rattle.camp_branch.proofs.Words.{◌≡◌, ◌≤◌, ◌+◌, ℕ, Bool, true, ◌||◌, Ok, Err, List, [], ◌∷◌, ◌++◌, map, bytes_eq, take, drop, length, slice_range, ◌-◌, refl, sym, ap, ◌∙◌, subst, inl, inr, arith, append_assoc, length-append, length-take-le, take-append-drop, take-append-le, Key, Align, AlignIsBlocked, Arrange, ArrangeIsBlocked, CatchMovesToFront, IsOf, Catch, keep_labels, Agree, has_patch, is_among, name_of, DiffersAt, MergedLast, MergesAfterCommon, Outcome, PullBy, PullGives, SameThen, common_names, Blocked, Contains, catch_key, keys_of, AllByRecursion, or_assoc, or_comm, or_left, and_from}
 use Rattle.std.proofs.Math.Seq.{take-append-add, take-length}
 use Rattle.camp_catch.specs.Laws.{KeysAlign}
 use Rattle.camp_branch.proofs.Names.{is_among_is, or_true, each_named, has_split}
@@ -30,7 +30,7 @@ module _ (names : List (List ℕ)) where
       inr (inl (a.0, (k, [], (refl, refl), sticks_front front list patch on a.1 w)))
 
 -- a catch that can be moved to the front of a prefix can be moved to the front of the whole list
-comes_within : (key : Key) (list more : List Catch) (k : Catch) (others : List Catch) → ComesFirst key list k others → ComesFirst key (list ++ more) k (others ++ more)
+comes_within : (key : Key) (list more : List Catch) (k : Catch) (others : List Catch) → CatchMovesToFront key list k others → CatchMovesToFront key (list ++ more) k (others ++ more)
 comes_within key [] more k others w = absurd w
 comes_within key (j ∷ list) more k others (inl w) = inl (w.0, w.1, ap (λ l. l ++ more) w.2)
 comes_within key (j ∷ list) more k others (inr w) =

@@ -1,5 +1,5 @@
 pub mod AgreedFronts
-pub mod BeginAlike
+pub mod SamePrefixes
 pub mod BranchFields
 pub mod BranchLabels
 pub mod BranchTrees

@@ -1,5 +1,5 @@
 -- Sets of names, a name more or less at a time.
-use Rattle.camp_branch.proofs.Words.{◌≡◌, ◌<◌, ◌+◌, ℕ, Bool, true, false, not, cond, ◌||◌, ◌&&◌, Option, None, List, [], ◌∷◌, map, drop, length, get_or, is_some, bytes_eq, refl, sym, ap, ◌∙◌, is_eq-slice_cmp, list_any, nat_cmp, eq_by_cmp, slice_cmp, nat_list_cmp_total, contains_key, contains_key-keys, empty, get, get-empty, get-remove, insert, remove, keys, Catch, stands_at, is_among, name_of, or_assoc, cond_both, and_right}
+use Rattle.camp_branch.proofs.Words.{◌≡◌, ◌<◌, ◌+◌, ℕ, Result, Ok, Err, IfOk, Bool, true, false, not, cond, ◌||◌, ◌&&◌, Option, None, List, [], ◌∷◌, map, drop, length, get_or, is_some, bytes_eq, refl, sym, ap, ◌∙◌, is_eq-slice_cmp, list_any, nat_cmp, eq_by_cmp, slice_cmp, nat_list_cmp_total, contains_key, contains_key-keys, empty, get, get-empty, get-remove, insert, remove, keys, Catch, stands_at, is_among, name_of, or_assoc, cond_both, and_right}
 use Rattle.camp_branch.proofs.BranchFields.{Names, contains_more}
 use Rattle.camp_branch.proofs.Names.{same_name}
 pub use Rattle.std.proofs.Math.Bool.{and-false as and_false, and-true as and_true, or-false as or_none}
@@ -65,6 +65,20 @@ one_comes all next taken i k d named aim inv within is called becomes =
     joined all next (name_of k) (map name_of (drop (i + 1) taken)) aim
     (λ name. ap (λ r. contains_key all name || is_among (map name_of r) name) (sym (stands_at taken i d k within is)) ∙ inv name)
     (λ name. ap (λ m. contains_key m name) (becomes ∙ ap (λ n. insert all n tt) called) ∙ contains_more all (name_of k) name)
+
+-- the first of some catches comes into a set, and then the others
+pub first_comes : (set next all : Names) (taken : List Catch) (k d : Catch) (named name : List ℕ) → 0 < length taken → k ≡ get_or taken 0 d → named ≡ name_of k → next ≡ insert set named tt → contains_key all name ≡ (contains_key next name || is_among (map name_of (drop 1 taken)) name) → contains_key all name ≡ (contains_key set name || is_among (map name_of taken) name)
+first_comes set next all taken k d named name within is called becomes has =
+    has
+    ∙ ap (λ m. contains_key m name || is_among (map name_of (drop 1 taken)) name) (becomes ∙ ap (λ n. insert set n tt) called)
+    ∙ ap (λ b. b || is_among (map name_of (drop 1 taken)) name) (contains_more set (name_of k) name)
+    ∙ or_assoc (contains_key set name) (bytes_eq name (name_of k)) (is_among (map name_of (drop 1 taken)) name)
+    ∙ ap (λ l. contains_key set name || is_among (map name_of l) name) (sym (stands_at taken 0 d k within is))
+
+-- what holds of a value, if there is one, entails another fact of it
+pub entails : {T E : Type 0} (result : Result T E) (P Q : T → Type 0) → ((x : T) → P x → Q x) → IfOk result P → IfOk result Q
+entails (Ok x) P Q then holds = then x holds
+entails (Err e) P Q then holds = holds
 
 pub one_added : (set next : Names) (n : List ℕ) (rest : List (List ℕ)) (aim : List ℕ → Bool) → IsFilled set (n ∷ rest) aim → next ≡ with_name set n → IsFilled next rest aim
 one_added set next n rest aim inv becomes =

@@ -1,5 +1,5 @@
 -- A pull has exactly one outcome, and so does an obliteration.
-use Rattle.camp_branch.proofs.Words.{◌≡◌, ◌⊎◌, ℕ, List, [], ◌∷◌, ◌++◌, Ok, Err, refl, sym, ap, ◌∙◌, subst, inl, inr, Key, Arrange, ArrangeIsBlocked, Align, AlignIsBlocked, keys_of, MergeLists, MergeIsBlocked, Catch, lists_are_unique, lists_succeed_or_stick, name_of, ExactlyOne, OutcomesAreDetermined, other_names, Outcome, StepThen, SameThen, DiffersAt, common_names, Blocked}
+use Rattle.camp_branch.proofs.Words.{◌≡◌, ◌⊎◌, ℕ, List, [], ◌∷◌, ◌++◌, Ok, Err, refl, sym, ap, ◌∙◌, subst, inl, inr, Key, Arrange, ArrangeIsBlocked, Align, AlignIsBlocked, keys_of, MergeLists, MergeIsBlocked, Catch, lists_are_unique, lists_succeed_or_are_blocked, name_of, ExactlyOne, OutcomesAreDetermined, other_names, Outcome, StepThen, SameThen, DiffersAt, common_names, Blocked}
 use Rattle.camp_catch.specs.ListLaws.{GivesOnePair, HasPair, OneOf}
 use Rattle.camp_catch.proofs.SameCatches.{catch_or_not}
 use Rattle.camp_branch.specs.declared.faults.Blocked.TheVariants.{Diverged}
@@ -34,7 +34,7 @@ module _ (Gives : List Catch → List Catch → Type 0) (Sticks : Key → Key �
 
 arranged : (names : List (List ℕ)) (list : List Catch) (why : Key → Key → Blocked) (Next : List Catch → List Catch → Outcome → Type 0) → ((x y : List Catch) → ExactlyOne (Next x y)) → ExactlyOne (StepThen (Arrange names list) (ArrangeIsBlocked names list) why Next)
 arranged names list why Next =
-    step (Arrange names list) (ArrangeIsBlocked names list) why Next (lists_are_unique.arranged names list) (lists_are_unique.arrange_sticks names list) (lists_succeed_or_stick.arranges names list)
+    step (Arrange names list) (ArrangeIsBlocked names list) why Next (lists_are_unique.arranged names list) (lists_are_unique.arrange_sticks names list) (lists_succeed_or_are_blocked.arranges names list)
 
 -- a list does not differ from itself
 not_from_itself : (list : List Catch) (name : List ℕ) → ¬ (DiffersAt list list name)
@@ -70,7 +70,7 @@ one_difference (j ∷ s) (k ∷ t) name other (inr v) (inr w) = one_difference s
 
 module _ (from_common to_common : List Catch) (Next : Outcome → Type 0) where
   never : ((aligned : List Catch) × Align (keys_of to_common) from_common aligned) → ((stuck : Key) × AlignIsBlocked (keys_of to_common) from_common stuck) → ⊥
-  never = (lists_succeed_or_stick.aligns (keys_of to_common) from_common).1
+  never = (lists_succeed_or_are_blocked.aligns (keys_of to_common) from_common).1
 
   one_order : (aligned other : List Catch) → Align (keys_of to_common) from_common aligned → Align (keys_of to_common) from_common other → aligned ≡ other
   one_order = lists_are_unique.aligned (keys_of to_common) from_common
@@ -91,7 +91,7 @@ module _ (from_common to_common : List Catch) (Next : Outcome → Type 0) where
       by_second _ _ (by_first _ _ (once (Err (Diverged stuck.name)) (stuck, sticks, refl) (λ other s. s.2 ∙ ap (λ (k : Key). Err (Diverged k.name)) (lists_are_unique.align_sticks (keys_of to_common) from_common s.0 stuck s.1 sticks))) (λ other d. never (d.0, d.2) (stuck, sticks))) (λ other v. never (to_common, v.0) (stuck, sticks))
 
   same_then : ExactlyOne Next → ExactlyOne (SameThen from_common to_common Next)
-  same_then next = elim (lists_succeed_or_stick.aligns (keys_of to_common) from_common).0 [
+  same_then next = elim (lists_succeed_or_are_blocked.aligns (keys_of to_common) from_common).0 [
     | inl a ↦ elim (compared a.0 to_common) [
       | inl e ↦ same_fronts (subst (λ l. Align (keys_of to_common) from_common l) e a.1) next
       | inr d ↦ other_fronts a.0 d.0 a.1 d.1
@@ -106,7 +106,7 @@ outcomes_are_determined = record {
       arranged wanted behind _ _ (λ chosen left.
       arranged (common_names from to) to _ _ (λ to_common others.
       same_then from_common to_common _ (
-      step (MergeLists chosen others) (MergeIsBlocked chosen others) _ _ (lists_are_unique.merged chosen others) (lists_are_unique.merge_sticks chosen others) (lists_succeed_or_stick.merges chosen others) (λ taken beside.
+      step (MergeLists chosen others) (MergeIsBlocked chosen others) _ _ (lists_are_unique.merged chosen others) (lists_are_unique.merge_sticks chosen others) (lists_succeed_or_are_blocked.merges chosen others) (λ taken beside.
       (Ok (to ++ taken), refl, λ other is. is))))));
   obliterates = λ branch names. arranged (other_names branch names) branch _ _ (λ staying gone. (Ok staying, refl, λ other is. is));
 }

@@ -17,7 +17,7 @@ pub use Rattle.camp_branch.specs.Conflicting.{AreConflicts, ConflictsWith, IsBef
 pub use Rattle.std.proofs.lemmas.Bool.{and_from, and_right, cond-false, cond-true, cond_both, false_from_ne_true, false≢true, ne_eqb, or_from, or_left, or_right}
 pub use Rattle.camp_prim.specs.declared.labels.Key.{Key}
 pub use Rattle.camp_catch.proofs.ListEffects.{lists_keep_effects}
-pub use Rattle.camp_catch.proofs.ListResults.{arrange_by_members, lists_are_unique, lists_succeed_or_stick}
+pub use Rattle.camp_catch.proofs.ListResults.{arrange_by_members, lists_are_unique, lists_succeed_or_are_blocked}
 pub use Rattle.camp_prim.specs.declared.named.Named.{Named}
 pub use Rattle.std.proofs.lemmas.List.{append-nil, append_assoc, drop_all, drop_more, flat_map_more, get_or-map, length-append, length-drop, length-map, length-take-le, map-append, take-append-drop, take-append-le, take_all}
 pub use Rattle.camp_branch.specs.Fields.{has_name, names_in}
@@ -25,7 +25,7 @@ pub use Rattle.camp_branch.specs.Inside.Collecting.{names_against, names_within,
 pub use Rattle.std.proofs.lemmas.List.Elements.{All-append, All-cons, All-contains_itself, All-filter, All-from_recursion, All-nil, All-weaker, Contains-append_cases, Contains-append_left, Contains-append_right, Contains-get_or, Decides-contains, filter-append, recursion_from_All}
 pub use Rattle.camp_prim.specs.declared.primitives.Primitive.{Primitive}
 pub use Rattle.camp_catch.proofs.MoveSteps.{names_decide, stands_at}
-pub use Rattle.camp_catch.specs.Arranging.{Align, AlignIsBlocked, Arrange, ArrangeIsBlocked, ArrangesAfter, ComesFirst, IsOf, IsBlockedAfter}
+pub use Rattle.camp_catch.specs.Arranging.{Align, AlignIsBlocked, Arrange, ArrangeIsBlocked, ArrangesAfter, CatchMovesToFront, IsOf, IsBlockedAfter}
 pub use Rattle.std.proofs.lemmas.List.Folds.{list_any-append}
 pub use Rattle.camp_branch.specs.Inside.Fronts.{front_before, front_of}
 pub use Rattle.camp_branch.specs.Inside.Stages.{DependsIn, DivergesFrom, DivergesIn, DoesNotMerge}

@@ -12,11 +12,11 @@ pub record Agree (from to : List Catch) (n : ℕ) : Type 0 where
   pub same : Align (keys_of (take n to)) (take n from) (take n to)
 
 -- two lists have the same first n catches
-pub record BeginAlike (from to : List Catch) (n : ℕ) : Type 0 where
+pub record HaveSamePrefix (from to : List Catch) (n : ℕ) : Type 0 where
   pub within : n ≤ length from
   pub within_too : n ≤ length to
   pub same : take n from ≡ take n to
 
--- n is at least `known` plus the number of catches that are the same in both lists from index `known` on
+-- n is at least `known` plus the number of catches from that index on that are the same in both lists
 abbrev pub ReachesAll : List Catch → List Catch → ℕ → ℕ → Type 0
-ReachesAll from to known n = (more : ℕ) → BeginAlike (drop known from) (drop known to) more → known + more ≤ n
+ReachesAll from to known n = (more : ℕ) → HaveSamePrefix (drop known from) (drop known to) more → known + more ≤ n

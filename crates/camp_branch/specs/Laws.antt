@@ -53,8 +53,8 @@ PullsBeginWithOwn =
     (from to pulled : List Catch) (wanted : List (List ℕ)) → PullGives from to wanted (Ok pulled) →
     (taken : List Catch) × (pulled ≡ to ++ taken)
 
--- the result of a pull has the patches of `to`, and then the wanted ones of `from`, in their order there; it
--- is lawful if both branches are
+-- the result of a pull has the patches of `to`, and then the wanted ones in their order in `from`; it is lawful if both
+-- branches are
 pub record PullsKeepLawful : Type 0 where
   pub patches :
       (from to pulled : List Catch) (wanted : List (List ℕ)) (theirs ours : List Patch) →
@@ -68,7 +68,7 @@ pub record PullsKeepLawful : Type 0 where
       (from to pulled : List Catch) (wanted : List (List ℕ)) → PullGives from to wanted (Ok pulled) →
       IsLawfulBranch from → IsLawfulBranch to → AreLacked to wanted → IsLawfulBranch pulled
 
--- an obliteration keeps the other patches in their order; it is lawful if the branch is
+-- an obliteration keeps the other patches in their order; its result is lawful if the branch is
 pub record ObliteratesKeepLawful : Type 0 where
   pub patches :
       (branch left : List Catch) (names : List (List ℕ)) (own : List Patch) →

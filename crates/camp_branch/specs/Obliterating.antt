@@ -8,9 +8,8 @@ use Rattle.camp_branch.specs.Pulling.{Outcome, WantedNext}
 abbrev pub other_names : List Catch → List (List ℕ) → List (List ℕ)
 other_names branch names = filter (λ name. not (is_among names name)) (names_of branch)
 
--- the outcome of an obliteration: the patches that stay, if each can be moved in front of those that are
--- taken out
--- branch <-> staying gone
+-- the outcome of an obliteration: the patches that stay, if all of them can be moved in front of those that are taken
+-- out branch <-> staying gone
 abbrev pub ObliterateGives : List Catch → List (List ℕ) → Outcome → Type 0
 ObliterateGives branch names =
     WantedNext (other_names branch names) branch (λ staying gone outcome. outcome ≡ Ok staying)

@@ -14,8 +14,8 @@ use Rattle.camp_branch.specs.declared.faults.Blocked.TheVariants.{Depends, Diver
 abbrev pub Outcome : Type 0
 Outcome = Result (List Catch) Blocked
 
--- one step of a pull: either it gives two lists, with which the next step continues, or two labels block it, which name
--- the reason
+-- one step of a pull: it gives two lists, with which the next step continues, or it is blocked at two labels, from
+-- which the reason is made
 abbrev pub StepThen :
     (List Catch → List Catch → Type 0) → (Key → Key → Type 0) → (Key → Key → Blocked)
     → (List Catch → List Catch → Outcome → Type 0) → Outcome → Type 0
@@ -23,7 +23,8 @@ StepThen Gives Sticks why Next outcome =
     ((x : List Catch) × (y : List Catch) × Gives x y × Next x y outcome)
     ⊎ ((stuck : Key) × (on : Key) × Sticks stuck on × (outcome ≡ Err (why stuck on)))
 
--- two lists of catches first differ at this patch: the one of the first list, if both have a catch at that index
+-- two lists of catches first differ at this patch: that of the first list at the first index at which they differ, or
+-- that of the other list if the first ends there
 abbrev pub DiffersAt : List Catch → List Catch → List ℕ → Type 0
 DiffersAt [] [] name = ⊥
 DiffersAt [] (k ∷ list) name = name ≡ name_of k
@@ -31,8 +32,9 @@ DiffersAt (j ∷ list) [] name = name ≡ name_of j
 DiffersAt (j ∷ list) (k ∷ others) name =
     ((j ≢ k) × (name ≡ name_of j)) ⊎ ((j ≡ k) × DiffersAt list others name)
 
--- the common patches, put in the order of those of `to`, equal them, and the next step continues; or else the branches
--- have diverged, at the patch that cannot be put in this order or at the first that differs
+-- the common patches of `from`, put in the order of `to`, are the same catches as those of `to`, and the next step
+-- continues; otherwise the branches have diverged, at the patch that cannot be put in this order, or at the first that
+-- differs
 abbrev pub SameThen : List Catch → List Catch → (Outcome → Type 0) → Outcome → Type 0
 SameThen from_common to_common Next outcome =
     (Align (keys_of to_common) from_common to_common × Next outcome)
@@ -58,21 +60,21 @@ abbrev pub WantedNext :
 WantedNext names list =
     StepThen (Arrange names list) (ArrangeIsBlocked names list) (λ stuck on. Depends stuck.name on.name)
 
--- the wanted patches merge with the others, or two do not
+-- the wanted patches merge with the others, or two patches do not merge
 abbrev pub MergedLast :
     List Catch → List Catch → (List Catch → List Catch → Outcome → Type 0) → Outcome → Type 0
 MergedLast wanted others =
     StepThen (MergeLists wanted others) (MergeIsBlocked wanted others) (λ left right. NoMerge left.name right.name)
 
--- the wanted patches, which come after the common ones, are merged with those that only the other branch has; the new
--- branch is `to` followed by what the wanted ones become
+-- the wanted patches come next after the common ones, and are merged with the patches that only `to` has; the new
+-- branch is `to` followed by what the wanted patches become
 abbrev pub MergesAfterCommon : List (List ℕ) → List Catch → List Catch → List Catch → Outcome → Type 0
 MergesAfterCommon common from_common chosen to =
     CommonFirst common to (λ to_common others.
     SameThen from_common to_common (
     MergedLast chosen others (λ taken beside outcome. outcome ≡ Ok (to ++ taken))))
 
--- a pull, given the names of the common patches: its steps in order, of which the first that fails decides
+-- a pull, given the names of the common patches: its steps in order; the first that is blocked decides
 abbrev pub PullBy : List (List ℕ) → List Catch → List Catch → List (List ℕ) → Outcome → Type 0
 PullBy common from to wanted =
     CommonFirst common from (λ from_common behind.

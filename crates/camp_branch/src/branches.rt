@@ -152,9 +152,9 @@ impl Branch {
         })
     }
 
-    /// Computes a length up to which another branch and this one agree: their prefixes of that length have the same
-    /// patches in the same state. `known` is such a length. The result counts all catches after it that are the same in
-    /// both, and as many further ones as are found to be the same patches in other orders.
+    /// Returns a length at which the prefixes of another branch and of this one agree: they contain the same patches
+    /// and, put in one order, the same catches. `known` is such a length. The result counts all catches after it that
+    /// are the same in both, and those further ones that are found to be the same patches in another order.
     pub fn agreed(&self, from: &Branch, known: usize) -> Result<usize, AllocError>
         requires { Agree from.now self.now known }
         ensures agree { IfOk result (Agree from.now self.now) }
@@ -175,12 +175,12 @@ impl Branch {
         ensures exact { GivesOrRunsOut (PullGives from.now self.now (names_in wanted.now)) result }
     {
         let known = self.agreed(from, 0)?;
-        self.pulled_behind(from, wanted, known)
+        self.pulled_after_prefix(from, wanted, known)
     }
 
     /// Pulls as `pull` does, for branches whose prefixes of length `known` agree. Reads only the catches after these
     /// prefixes.
-    pub fn pulled_behind(
+    pub fn pulled_after_prefix(
         &self,
         from: &Branch,
         wanted: &NameSet,
@@ -190,8 +190,8 @@ impl Branch {
         requires agree { Agree from.now self.now known }
         ensures exact { GivesOrRunsOut (PullGives from.now self.now (names_in wanted.now)) result }
     {
-        let theirs = behind(&from.catches, known)?;
-        let ours = behind(&self.catches, known)?;
+        let theirs = catches_from(&from.catches, known)?;
+        let ours = catches_from(&self.catches, known)?;
         let common = common(&theirs, &from.names, &ours, &self.names)?;
         let taken = pull(self.catches.allocator(), &theirs, &ours, &common, wanted)?;
         Ok(self.with_taken(&taken)?)
@@ -204,13 +204,13 @@ impl Branch {
     {
         let staying = name_sets::without(&self.names, names)?;
         let start = name_sets::front_before(&self.catches, names);
-        let rest = behind(&self.catches, start)?;
+        let rest = catches_from(&self.catches, start)?;
         let arranged = wanted_next(self.catches.allocator(), &rest, &staying)?;
         Ok(self.with_end(start, &arranged.first, &arranged.rest, staying)?)
     }
 
-    /// Returns the branch with its catches from an index on in another order, and without those at the end that are
-    /// taken out. `names` are the names of the remaining patches.
+    /// Returns the branch that an obliteration leaves: its catches from `start` on are replaced by those that stay, and
+    /// the effects of those that are taken out are undone. `names` are the names of the remaining patches.
     fn with_end(
         &self,
         start: usize,
@@ -251,7 +251,7 @@ impl Branch {
 }
 
 /// Returns the catches from an index on.
-fn behind(
+fn catches_from(
     catches: &SharedList<Shared<Catch>>,
     start: usize,
 ) -> Result<CowSlice<'_, Shared<Catch>>, AllocError>

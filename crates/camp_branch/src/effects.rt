@@ -20,7 +20,7 @@ pub(crate) fn tree_after(tree: &Tree, catches: &[Shared<Catch>]) -> Result<Tree,
 {
     let mut after = tree.try_clone()?;
     for catch in catches {
-        run(catch.effect(), &mut after)?;
+        apply_effect(catch.effect(), &mut after)?;
     }
     Ok(after)
 }
@@ -32,13 +32,13 @@ pub(crate) fn tree_before(tree: &Tree, catches: &[Shared<Catch>]) -> Result<Tree
 {
     let mut before = tree.try_clone()?;
     for at in (0..catches.len()).rev() {
-        run_back(catches[at].effect(), &mut before)?;
+        undo_effect(catches[at].effect(), &mut before)?;
     }
     Ok(before)
 }
 
 /// Applies an effect whose changes are known to apply.
-fn run(effect: &[Named], tree: &mut Tree) -> Result<(), AllocError>
+fn apply_effect(effect: &[Named], tree: &mut Tree) -> Result<(), AllocError>
     requires runs { (after : Files) × AppliesAll effect.now tree.old after }
     ensures { OnOk result (AppliesAll effect.now tree.old tree.new) }
 {
@@ -53,7 +53,7 @@ fn run(effect: &[Named], tree: &mut Tree) -> Result<(), AllocError>
 }
 
 /// Undoes an effect; `tree` is the tree after its last change.
-fn run_back(effect: &[Named], tree: &mut Tree) -> Result<(), AllocError>
+fn undo_effect(effect: &[Named], tree: &mut Tree) -> Result<(), AllocError>
     requires ran { (before : Files) × AppliesAll effect.now before tree.old }
     ensures { OnOk result (AppliesAll effect.now tree.new tree.old) }
 {

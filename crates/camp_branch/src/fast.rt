@@ -5,8 +5,8 @@
 //! unchanged.
 //!
 //! The length of such a prefix is found in two steps. First, catches that are the same in both branches are counted.
-//! Then sums over the hashes of labels estimate how many more catches have the same labels in another order; putting
-//! those in order decides whether they agree. If they do not, the complete pull finds out why.
+//! Then sums of label hashes estimate how many further catches have the same labels in another order; whether these
+//! agree is decided by putting them in one order. If they do not, the complete pull finds out why.
 ghost use Rattle.std.specs.Prelude.{◌+◌, ◌≤◌, drop, length, IfOk};
 ghost use Rattle.camp_branch.specs.Agreeing.{Agree, ReachesAll};
 ghost use Rattle.camp_branch.specs.Inside.Alike.{DifferAfter};
@@ -16,8 +16,8 @@ use camp_catch::{Catch, Unmade};
 use camp_share::{Shared, SharedList};
 use std::alloc::{AllocError, Global};
 
-/// Computes a length up to which two lists agree, given such a length, `known`. Adds the catches after it that are the
-/// same in both lists, and after these the ones that have the same labels and agree.
+/// Returns a length at which the prefixes of two lists agree, given such a length, `known`. Counts the catches after it
+/// that are the same in both lists, and after these the ones that have the same labels in another order and agree.
 pub(crate) fn agreed(
     alloc: Global,
     from: &SharedList<Shared<Catch>>,
@@ -30,8 +30,8 @@ pub(crate) fn agreed(
 {
     // A fact for the prover: a length fits in a `usize`.
     prove!(from.len() <= usize::MAX);
-    let start = known + same_behind(from, to, known);
-    let more = alike_in_labels(from, to, start);
+    let start = known + count_same(from, to, known);
+    let more = count_alike_labels(from, to, start);
     if more == 0 {
         return Ok(start);
     }
@@ -45,7 +45,7 @@ pub(crate) fn agreed(
 }
 
 /// Counts the catches from index `known` on that are the same in both lists, up to the first difference.
-fn same_behind(
+fn count_same(
     from: &SharedList<Shared<Catch>>,
     to: &SharedList<Shared<Catch>>,
     known: usize,
@@ -74,7 +74,7 @@ fn same_behind(
 
 /// Estimates how many catches from index `known` on have the same labels in both lists, by sums over the hashes of
 /// their labels. Equal sums do not prove equal labels.
-fn alike_in_labels(
+fn count_alike_labels(
     from: &SharedList<Shared<Catch>>,
     to: &SharedList<Shared<Catch>>,
     known: usize,

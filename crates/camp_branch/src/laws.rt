@@ -24,12 +24,13 @@ pub fn conflicts_are_determined()
     ensures law { ConflictsAreDetermined }
 {}
 
-/// The result of a pull begins with the branch that is pulled into.
+/// The result of a pull begins with the catches of the branch that is pulled into.
 pub fn pulls_begin_with_own()
     ensures law { PullsBeginWithOwn }
 {}
 
-/// The result of a pull has its own patches and then the wanted ones, in the order of the other branch, and is lawful.
+/// The result of a pull has the patches of the branch that is pulled into, and then the wanted ones in the order of the
+/// other branch; it is lawful.
 #[tactic(auto, using(crate::proofs::KeepLawful::pulls_keep_lawful))]
 pub fn pulls_keep_lawful()
     ensures law { PullsKeepLawful }

@@ -76,12 +76,24 @@ pub(crate) fn common(
     Ok(set_of(alloc, &both)?)
 }
 
-/// Adds the names of the patches of catches to a set.
+/// Adds the names of the patches of catches to a set. The set itself is not copied first: its chunks are shared once,
+/// with the first name.
 pub(crate) fn with_taken(names: &NameSet, taken: &[Shared<Catch>]) -> Result<NameSet, AllocError>
     ensures { IfOk result (λ all. (name : List ℕ) →
         has_name all name ≡ (has_name names.now name || is_among (map name_of taken.now) name)) }
 {
-    let mut all = names.share()?;
+    match taken {
+        [] => names.share(),
+        [first, rest @ ..] => with_more(names.inserted(*first.name(), ())?, rest),
+    }
+}
+
+/// Adds the names of the patches of catches to a set.
+fn with_more(names: NameSet, taken: &[Shared<Catch>]) -> Result<NameSet, AllocError>
+    ensures { IfOk result (λ all. (name : List ℕ) →
+        has_name all name ≡ (has_name names name || is_among (map name_of taken.now) name)) }
+{
+    let mut all = names;
     for catch in taken {
         all = all.inserted(*catch.name(), ())?;
     }

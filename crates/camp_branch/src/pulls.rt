@@ -30,7 +30,7 @@ pub(crate) fn pull(
         (λ blocked. PullBy (names_in common.now) from.now to.now (names_in wanted.now) (err blocked))) result }
 {
     if common.is_empty() {
-        return pull_of_none_common(alloc, from, to, wanted);
+        return pull_unrelated(alloc, from, to, wanted);
     }
     let theirs = common_first(alloc, from, common)?;
     let chosen = wanted_next(alloc, &theirs.rest, wanted)?;
@@ -40,7 +40,7 @@ pub(crate) fn pull(
 }
 
 /// Pulls as `pull` does, for branches without a common patch: only the wanted patches have to be moved to the front.
-fn pull_of_none_common(
+fn pull_unrelated(
     alloc: Global,
     from: &[Shared<Catch>],
     to: &[Shared<Catch>],

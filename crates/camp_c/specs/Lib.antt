@@ -1,3 +1,4 @@
 pub mod Handles
 pub mod Inside
+pub mod Members
 pub mod Owned

@@ -13,7 +13,7 @@ use Rattle.camp_c.specs.contracts.objects.OpenObject.{the_row}
 abbrev pub Held : Type 0
 Held = the_row.Denot
 
--- a pointer of a keeper is one to a box with this value, or null
+-- the pointer of a keeper owns the box with this value; without a value it owns nothing
 abbrev pub keeper_owns : Global → Ptr → Option Held → Fml
 keeper_owns alloc at (Some held) = box_owns (ghosts.dealloc_token alloc) the_row at held
 keeper_owns alloc at None = ftrue

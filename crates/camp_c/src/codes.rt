@@ -15,5 +15,5 @@ pub(crate) const LIMITS: i32 = 3;
 /// The handle to be opened is open already.
 pub(crate) const ALREADY_OPEN: i32 = 4;
 
-/// The handle has a view where a repository is needed, or a repository where a view is needed.
+/// The handle has a value of another kind: a view where a repository is needed, say.
 pub(crate) const WRONG_KIND: i32 = 5;

@@ -1,8 +1,12 @@
-//! The library for C: the exports that `include/camp.h` declares, over the sessions and views of `camp_session`.
+//! The library for C: the exports that `include/camp.h` declares, over the sessions and views of `camp_talk` and the
+//! members of `camp_shared_session`.
 #![tactic(auto)]
 
 mod codes;
 mod handles;
+mod kinds;
+mod member_codes;
+mod members;
 mod objects;
 mod parts;
 mod repositories;

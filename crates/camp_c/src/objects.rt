@@ -1,73 +1,37 @@
 //! The value of an open handle.
 ghost use Rattle.std.specs.Prelude.{◌≡◌, Some, length};
-ghost use Rattle.camp_c.specs.Handles.{AsksRepository, AsksView, answer_of, answer_of_view, executed_of};
+ghost use Rattle.camp_c.specs.Handles.{answer_of, answer_of_view, text_of_member};
 
-use crate::codes::{DONE, MEMORY, WRONG_KIND};
-use camp_session::{Session, View};
-use std::alloc::Global;
+use camp_shared_session::SharedSession;
+use camp_talk::{Session, View};
 
 /// The value of an open handle.
 #[derive(Drop)]
 pub enum OpenObject {
     Session(Session),
     View(View),
+    Member(SharedSession),
 }
 
 impl OpenObject {
-    /// Asks a repository.
-    pub(crate) fn ask(&mut self, alloc: Global, text: &[u8]) -> i32
-        ensures { AsksRepository (Some self.old) text.now result (Some self.new) }
-    {
-        match self {
-            OpenObject::Session(session) => match session.ask(alloc, text) {
-                Ok(()) => DONE,
-                Err(_) => MEMORY,
-            },
-            OpenObject::View(_) => WRONG_KIND,
-        }
-    }
-
-    /// Asks a view.
-    pub(crate) fn ask_view(&mut self, alloc: Global, text: &[u8]) -> i32
-        ensures { AsksView (Some self.old) text.now result (Some self.new) }
-    {
-        match self {
-            OpenObject::View(view) => match view.ask(alloc, text) {
-                Ok(()) => DONE,
-                Err(_) => MEMORY,
-            },
-            OpenObject::Session(_) => WRONG_KIND,
-        }
-    }
-
     /// Returns the answer of a repository.
     pub(crate) fn answer(&self) -> &[u8]
         ensures { result.now ≡ answer_of (Some self.now) }
     {
         match self {
             OpenObject::Session(session) => session.answer(),
-            OpenObject::View(_) => &[],
+            _ => &[],
         }
     }
 
-    /// Sets `at` to the first byte of the answer of a repository, and returns the number of bytes. Of a view `at` is
-    /// unchanged.
+    /// Sets `at` to the first byte of the answer of a repository, and returns the number of bytes. If the value is no
+    /// repository, `at` is unchanged.
     pub(crate) fn lend_answer(&self, at: &mut *const u8) -> usize
         ensures { result ≡ length (answer_of (Some self.now)) }
     {
         match self {
             OpenObject::Session(session) => session.lend_answer(at),
-            OpenObject::View(_) => 0,
-        }
-    }
-
-    /// Returns how many commands of the last text of a repository were executed.
-    pub(crate) fn executed(&self) -> usize
-        ensures { result ≡ executed_of (Some self.now) }
-    {
-        match self {
-            OpenObject::Session(session) => session.executed(),
-            OpenObject::View(_) => 0,
+            _ => 0,
         }
     }
 
@@ -77,18 +41,28 @@ impl OpenObject {
     {
         match self {
             OpenObject::View(view) => view.answer(),
-            OpenObject::Session(_) => &[],
+            _ => &[],
         }
     }
 
-    /// Sets `at` to the first byte of the answer of a view, and returns the number of bytes. Of a repository `at` is
-    /// unchanged.
+    /// Sets `at` to the first byte of the answer of a view, and returns the number of bytes. If the value is no view,
+    /// `at` is unchanged.
     pub(crate) fn lend_answer_of_view(&self, at: &mut *const u8) -> usize
         ensures { result ≡ length (answer_of_view (Some self.now)) }
     {
         match self {
             OpenObject::View(view) => view.lend_answer(at),
-            OpenObject::Session(_) => 0,
+            _ => 0,
+        }
+    }
+
+    /// Returns the text that a member returned last.
+    pub(crate) fn text(&self) -> &[u8]
+        ensures { result.now ≡ text_of_member (Some self.now) }
+    {
+        match self {
+            OpenObject::Member(member) => member.text(),
+            _ => &[],
         }
     }
 }

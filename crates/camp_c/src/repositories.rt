@@ -1,14 +1,15 @@
 //! Repositories: opened, asked and closed.
-ghost use Rattle.std.specs.Prelude.{◌≡◌, ◌++◌, None, Some, length, take, drop, min, IfOk};
-ghost use Rattle.camp_c.specs.Handles.{AsksRepository, OpensRepository, OpensWithin, answer_of, executed_of};
+ghost use Rattle.std.specs.Option.{option_map_or};
+ghost use Rattle.std.specs.Prelude.{◌≡◌, ◌++◌, None, length, take, drop, min, IfOk};
+ghost use Rattle.camp_c.specs.Handles.{AsksOne, OnRepository, OpensRepository, OpensWithin, answer_of, repository_in};
 ghost use Rattle.camp_repo.specs.Limits.{bounded, default_bounds};
-ghost use Rattle.camp_session.specs.Sessions.{new_repository};
+ghost use Rattle.camp_talk.specs.Sessions.{new_repository};
 ghost use Rattle.camp_c.specs.declared.objects.OpenObject.TheVariants.{Session as OfSession};
 
-use crate::codes::{ALREADY_OPEN, DONE, LIMITS, MEMORY, NOT_OPEN};
+use crate::codes::{ALREADY_OPEN, DONE, LIMITS, MEMORY};
 use crate::handles::Handle;
 use crate::objects::OpenObject;
-use camp_session::{Limits, Session};
+use camp_talk::{Limits, Session};
 use std::alloc::{AllocError, Global};
 
 /// Opens a closed handle on a new repository with the default limits: one branch `main` without a patch.
@@ -40,18 +41,15 @@ pub extern "C" fn camp_open_with(
 fn open(alloc: Global, handle: &mut Handle, limits: Limits) -> i32
     ensures { OpensRepository limits handle.old.keeper.held result handle.new.keeper.held }
 {
-    match handle.take(alloc) {
-        Some(object) => {
+    if handle.is_open() {
+        return ALREADY_OPEN;
+    }
+    match begin(alloc, limits) {
+        Ok(object) => {
             handle.put(object);
-            ALREADY_OPEN
+            DONE
         }
-        None => match begin(alloc, limits) {
-            Ok(object) => {
-                handle.put(object);
-                DONE
-            }
-            Err(_) => MEMORY,
-        },
+        Err(_) => MEMORY,
     }
 }
 
@@ -66,28 +64,21 @@ fn begin(alloc: Global, limits: Limits) -> Result<Box<OpenObject>, AllocError>
 /// ones were executed, as many as `camp_executed` returns.
 #[unsafe(no_mangle)]
 pub extern "C" fn camp_ask(alloc: Global, handle: &mut Handle, text: &[u8]) -> i32
-    ensures { AsksRepository handle.old.keeper.held text.now result handle.new.keeper.held }
+    ensures { OnRepository (AsksOne text.now) handle.old.keeper.held result handle.new.keeper.held }
 {
-    let Some(mut object) = handle.take(alloc) else {
-        return NOT_OPEN;
-    };
-    let code = object.ask(alloc, text);
-    handle.put(object);
-    code
+    handle.on_repository(alloc, |repository| match repository.ask(alloc, text) {
+        Ok(()) => DONE,
+        Err(_) => MEMORY,
+    })
 }
 
 /// Returns how many commands of the last text were executed, each blank line and comment among them.
 #[unsafe(no_mangle)]
 pub extern "C" fn camp_executed(alloc: Global, handle: &mut Handle) -> usize
     ensures same { handle.new.keeper.held ≡ handle.old.keeper.held }
-    ensures count { result ≡ executed_of handle.old.keeper.held }
+    ensures count { result ≡ option_map_or (λ repository. repository.executed) (repository_in handle.old.keeper.held) 0 }
 {
-    let Some(object) = handle.take(alloc) else {
-        return 0;
-    };
-    let executed = object.executed();
-    handle.put(object);
-    executed
+    handle.in_repository(alloc, 0, |repository| repository.executed())
 }
 
 /// Returns the number of bytes of the answer to the last text.
@@ -96,12 +87,7 @@ pub extern "C" fn camp_answer_length(alloc: Global, handle: &mut Handle) -> usiz
     ensures same { handle.new.keeper.held ≡ handle.old.keeper.held }
     ensures length { result ≡ length (answer_of handle.old.keeper.held) }
 {
-    let Some(object) = handle.take(alloc) else {
-        return 0;
-    };
-    let length = object.answer().len();
-    handle.put(object);
-    length
+    handle.in_repository(alloc, 0, |repository| repository.answer().len())
 }
 
 /// Writes as much of the answer to the last text as fits in a buffer, and returns the number of bytes

@@ -1,6 +1,6 @@
 //! Views: each has the state that a repository had at one moment, and answers only questions.
-ghost use Rattle.std.specs.Prelude.{◌≡◌, ◌++◌, None, Some, length, take, drop, min, IfOk, IsOkAnd};
-ghost use Rattle.camp_c.specs.Handles.{AsksView, OpensView, OpensViewAgain, answer_of_view};
+ghost use Rattle.std.specs.Prelude.{◌≡◌, ◌++◌, None, length, take, drop, min, IfOk, IsOkAnd};
+ghost use Rattle.camp_c.specs.Handles.{OnView, OpensClosed, OpensFrom, OpensView, OpensViewAgain, SeesOne, answer_of_view};
 ghost use Rattle.camp_c.specs.Inside.{Shows};
 ghost use Rattle.camp_c.specs.declared.objects.OpenObject.TheVariants.{View as OfView};
 
@@ -8,7 +8,7 @@ use crate::codes::{ALREADY_OPEN, DONE, MEMORY, NOT_OPEN, WRONG_KIND};
 use crate::handles::Handle;
 use crate::objects::OpenObject;
 use crate::repositories::copy_front;
-use camp_session::View;
+use camp_talk::View;
 use std::alloc::{AllocError, Global};
 
 /// Opens a closed handle on a view of a repository as it is now.
@@ -17,31 +17,34 @@ pub extern "C" fn camp_look(alloc: Global, handle: &mut Handle, view: &mut Handl
     ensures same { handle.new.keeper.held ≡ handle.old.keeper.held }
     ensures opens { OpensView handle.old.keeper.held view.old.keeper.held result view.new.keeper.held }
 {
-    let Some(object) = handle.take(alloc) else {
-        return NOT_OPEN;
-    };
-    let code = open_view(alloc, &object, view);
-    handle.put(object);
-    code
+    let made = handle.in_repository(alloc, None, |repository| Some(repository.view(alloc)));
+    open_made(alloc, handle, made, view)
 }
 
-fn open_view(alloc: Global, object: &OpenObject, handle: &mut Handle) -> i32
-    ensures { OpensView (Some object.now) handle.old.keeper.held result handle.new.keeper.held }
+/// Opens a closed handle on a view that was made of the value of another handle; `None` if that has no value of the
+/// kind.
+pub(crate) fn open_made(
+    alloc: Global,
+    from: &Handle,
+    made: Option<Result<View, AllocError>>,
+    handle: &mut Handle,
+) -> i32
+    ensures { OpensFrom Shows made from.now.keeper.held handle.old.keeper.held result handle.new.keeper.held }
 {
-    let OpenObject::Session(session) = object else {
-        return WRONG_KIND;
-    };
+    match made {
+        Some(view) => open_shown(alloc, view, handle),
+        None if from.is_open() => WRONG_KIND,
+        None => NOT_OPEN,
+    }
+}
+
+// Opens a closed handle on a view, if memory has not run out for the view.
+fn open_shown(alloc: Global, view: Result<View, AllocError>, handle: &mut Handle) -> i32
+    ensures { OpensClosed (Shows view) handle.old.keeper.held result handle.new.keeper.held }
+{
     if handle.is_open() {
         return ALREADY_OPEN;
     }
-    open_shown(alloc, session.view(alloc), handle)
-}
-
-// Opens a closed handle on a view, if there is one.
-fn open_shown(alloc: Global, view: Result<View, AllocError>, handle: &mut Handle) -> i32
-    requires { handle.old.keeper.held ≡ None }
-    ensures { Shows view result handle.new.keeper.held }
-{
     match boxed(alloc, view) {
         Ok(object) => {
             handle.put(object);
@@ -58,17 +61,15 @@ fn boxed(alloc: Global, view: Result<View, AllocError>) -> Result<Box<OpenObject
     Ok(Box::new(alloc, OpenObject::View(view))?)
 }
 
-/// Asks the questions of a text of a view. Only the view's answer changes.
+/// Answers the questions in a text by the state of a view. Only the view's answer changes.
 #[unsafe(no_mangle)]
 pub extern "C" fn camp_view_ask(alloc: Global, view: &mut Handle, text: &[u8]) -> i32
-    ensures { AsksView view.old.keeper.held text.now result view.new.keeper.held }
+    ensures { OnView (SeesOne text.now) view.old.keeper.held result view.new.keeper.held }
 {
-    let Some(mut object) = view.take(alloc) else {
-        return NOT_OPEN;
-    };
-    let code = object.ask_view(alloc, text);
-    view.put(object);
-    code
+    view.on_view(alloc, |view| match view.ask(alloc, text) {
+        Ok(()) => DONE,
+        Err(_) => MEMORY,
+    })
 }
 
 /// Returns the number of bytes of the answer to the last text.
@@ -77,12 +78,7 @@ pub extern "C" fn camp_view_answer_length(alloc: Global, view: &mut Handle) -> u
     ensures same { view.new.keeper.held ≡ view.old.keeper.held }
     ensures length { result ≡ length (answer_of_view view.old.keeper.held) }
 {
-    let Some(object) = view.take(alloc) else {
-        return 0;
-    };
-    let length = object.answer_of_view().len();
-    view.put(object);
-    length
+    view.in_view(alloc, 0, |view| view.answer().len())
 }
 
 /// Writes as much of the answer to the last text as fits in a buffer, and returns the number of bytes
@@ -127,24 +123,8 @@ pub extern "C" fn camp_view_again(alloc: Global, view: &mut Handle, other: &mut 
     ensures same { view.new.keeper.held ≡ view.old.keeper.held }
     ensures opens { OpensViewAgain view.old.keeper.held other.old.keeper.held result other.new.keeper.held }
 {
-    let Some(object) = view.take(alloc) else {
-        return NOT_OPEN;
-    };
-    let code = open_same_view(alloc, &object, other);
-    view.put(object);
-    code
-}
-
-fn open_same_view(alloc: Global, object: &OpenObject, handle: &mut Handle) -> i32
-    ensures { OpensViewAgain (Some object.now) handle.old.keeper.held result handle.new.keeper.held }
-{
-    let OpenObject::View(view) = object else {
-        return WRONG_KIND;
-    };
-    if handle.is_open() {
-        return ALREADY_OPEN;
-    }
-    open_shown(alloc, view.again(alloc), handle)
+    let made = view.in_view(alloc, None, |view| Some(view.again(alloc)));
+    open_made(alloc, view, made, other)
 }
 
 /// Closes a view.

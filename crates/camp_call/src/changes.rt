@@ -1,5 +1,5 @@
 //! The changes of a patch.
-ghost use Rattle.std.specs.Prelude.{◌≡◌, ◌↔◌, IfOk, IsTrue, MatchOption};
+ghost use Rattle.std.specs.Prelude.{◌≡◌, ◌↔◌, [], ◌∷◌, IfOk, IsTrue, MatchOption};
 ghost use Rattle.camp_call.specs.Patches.{IsPatchSized};
 
 use crate::MAX_CHANGES;
@@ -53,6 +53,15 @@ impl Changes {
         Some(Changes {
             prims: Held::One(prim),
         })
+    }
+
+    /// Wraps the change of a patch of one change; does not allocate.
+    pub fn of_one(prim: Primitive) -> Changes
+        ensures exact { result ≡ prim ∷ [] }
+    {
+        Changes {
+            prims: Held::One(prim),
+        }
     }
 
     pub fn prims(&self) -> &[Primitive]

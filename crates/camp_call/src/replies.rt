@@ -15,7 +15,7 @@ pub enum Reply {
     Names(Names),
 }
 
-/// Why a call was refused. It changed nothing.
+/// Why a call was refused. The call changed nothing.
 #[derive(Clone, Copy, PartialEq, Eq, Debug)]
 pub enum Refusal {
     /// There is no branch of this name.
@@ -34,8 +34,8 @@ pub enum Refusal {
     DoesNotApply,
     /// A patch depends on another one that would be missing.
     Depends { patch: Name, on: Name },
-    /// The two branches have this patch in different states, or it cannot be moved in front of what only one
-    /// of them has.
+    /// The two branches have this patch in different states, or it cannot be moved in front of the patches that only
+    /// one branch has.
     Diverged(Name),
     /// Two patches do not merge: `left` is of the branch that is pulled into, and `right` of the one that is pulled
     /// from.

@@ -10,8 +10,8 @@ use Rattle.camp_ctx.specs.Contexts.{ContextedPatch, ContextedPatches, with_membe
 use Rattle.camp_ctx.proofs.SetChanges.{unchanged}
 use Rattle.camp_catch.specs.Conflictors.{Becomes, joined_by, with_conflicts}
 use Rattle.camp_catch.specs.Inside.InPlace.{CatchesCommuteInPlace, MergesInto, MergesInPlace, with_gained}
-use Rattle.camp_catch.specs.Inside.Meetings.{EachGains, PassesGaining}
-use Rattle.camp_catch.specs.Inside.TwoConflictors.{EffectsMerge, JoinEachOther, DecidesConflict}
+use Rattle.camp_catch.specs.Inside.QuickChecks.{MergesGaining, CommutesGaining}
+use Rattle.camp_catch.specs.Inside.TwoConflictors.{EffectsMerge, GainEachOther, DecidesConflict}
 use Rattle.camp_catch.specs.Merging.{TwoConflictors}
 use Rattle.camp_catch.specs.Catches.{catch_key}
 use Rattle.camp_catch.specs.declared.catches.Catch.{Catch}
@@ -57,12 +57,12 @@ module _ (j k : Conflictor) (none : j.effect ≡ []) (also : k.effect ≡ []) wh
     own_stays : Becomes (λ t. t ≡ []) (AddsAll (inverse_all k.effect)) (AddsAll (inverse_all k.effect)) (with_conflicts xs j) (with_conflicts xs j)
     own_stays = subst (λ s. Becomes (λ t. t ≡ []) (AddsAll (inverse_all s)) (AddsAll (inverse_all s)) (with_conflicts xs j) (with_conflicts xs j)) (sym also) (record { effect = none; conflicts = unchanged xs; identity = refl })
 
-    merge_by : (k' j' : Catch) → JoinEachOther found (with_conflicts ys k) (with_conflicts xs j) k' j' → TwoConflictors (with_conflicts xs j) (with_conflicts ys k) k' j'
+    merge_by : (k' j' : Catch) → GainEachOther found (with_conflicts ys k) (with_conflicts xs j) k' j' → TwoConflictors (with_conflicts xs j) (with_conflicts ys k) k' j'
     merge_by k' j' each =
         two_from (with_conflicts xs j) (with_conflicts ys k) [] [] found (with_conflicts ys k) (with_conflicts xs j) k' j' effects tells stays own_stays each
 
   -- if they do not conflict, neither gains
-  pub none_gains : ¬ (Conflict j.identity k.identity) → EachGains (Catch.Conflictor j) (Catch.Conflictor k) [] []
+  pub none_gains : ¬ (Conflict j.identity k.identity) → MergesGaining (Catch.Conflictor j) (Catch.Conflictor k) [] []
   none_gains apart before beside =
       let xs = fold with_member j.conflicts before in
       let ys = fold with_member k.conflicts beside in
@@ -77,7 +77,7 @@ module _ (j k : Conflictor) (none : j.effect ≡ []) (also : k.effect ≡ []) wh
       })
 
   -- if they do, each gains the other's identity
-  pub each_gains : Conflict j.identity k.identity → (l i : ContextedPatch) → l ≡ j.identity → i ≡ k.identity → EachGains (Catch.Conflictor j) (Catch.Conflictor k) (l ∷ []) (i ∷ [])
+  pub each_gains : Conflict j.identity k.identity → (l i : ContextedPatch) → l ≡ j.identity → i ≡ k.identity → MergesGaining (Catch.Conflictor j) (Catch.Conflictor k) (l ∷ []) (i ∷ [])
   each_gains conflict l i first second before beside =
       let xs = fold with_member j.conflicts before in
       let ys = fold with_member k.conflicts beside in
@@ -91,12 +91,12 @@ module _ (j k : Conflictor) (none : j.effect ≡ []) (also : k.effect ≡ []) wh
       })
 
 -- two catches together with the conflicts that they have gained
-pub met : (j k j-now k-now : Catch) (before beside these those more most : List ContextedPatch) → EachGains j k these those → more ≡ before ++ those → most ≡ beside ++ these → with_gained before j ≡ j-now → with_gained beside k ≡ k-now → MergesInPlace (j-now, k-now) (with_gained more j, with_gained most k)
+pub met : (j k j-now k-now : Catch) (before beside these those more most : List ContextedPatch) → MergesGaining j k these those → more ≡ before ++ those → most ≡ beside ++ these → with_gained before j ≡ j-now → with_gained beside k ≡ k-now → MergesInPlace (j-now, k-now) (with_gained more j, with_gained most k)
 met j k j-now k-now before beside these those more most gains is also view k-view =
     rw (is, also, ← view, ← k-view) (gains before beside)
 
 -- merges a catch that has gained conflicts to what it is after the other
-pub met_behind : (j k j-now k-now : Catch) (before beside these those most : List ContextedPatch) → EachGains j k these those → most ≡ beside ++ these → with_gained before j ≡ j-now → with_gained beside k ≡ k-now → MergesInto j-now k-now (with_gained most k)
+pub met_behind : (j k j-now k-now : Catch) (before beside these those most : List ContextedPatch) → MergesGaining j k these those → most ≡ beside ++ these → with_gained before j ≡ j-now → with_gained beside k ≡ k-now → MergesInto j-now k-now (with_gained most k)
 met_behind j k j-now k-now before beside these those most gains also view k-view =
     (with_gained (before ++ those) j, rw (also, ← view, ← k-view) (gains before beside))
 
@@ -106,16 +106,16 @@ same_key gained (Plain a) = refl
 same_key gained (Catch.Conflictor k) = refl
 
 -- two that gain nothing from each other keep what they have gained
-pub met_aside : (j k j-now k-now : Catch) (before beside : List ContextedPatch) → EachGains j k [] [] → with_gained before j ≡ j-now → with_gained beside k ≡ k-now → MergesInPlace (j-now, k-now) (j-now, k-now)
+pub met_aside : (j k j-now k-now : Catch) (before beside : List ContextedPatch) → MergesGaining j k [] [] → with_gained before j ≡ j-now → with_gained beside k ≡ k-now → MergesInPlace (j-now, k-now) (j-now, k-now)
 met_aside j k j-now k-now before beside gains view k-view =
     rw (← view, ← k-view) (rw (append-nil before, append-nil beside) at (gains before beside))
 
 -- a catch that has gained conflicts lets the one after it commute past
-pub let_by : (j k k' j-now : Catch) (before these more : List ContextedPatch) → PassesGaining j k k' these → more ≡ before ++ these → with_gained before j ≡ j-now → CatchesCommuteInPlace (j-now, k) (with_gained more j, k')
+pub let_by : (j k k' j-now : Catch) (before these more : List ContextedPatch) → CommutesGaining j k k' these → more ≡ before ++ these → with_gained before j ≡ j-now → CatchesCommuteInPlace (j-now, k) (with_gained more j, k')
 let_by j k k' j-now before these more passes is view = rw (is, ← view) (passes before)
 
 -- the same if neither changes
-pub let_by_aside : (j k j-now : Catch) (before : List ContextedPatch) → PassesGaining j k k [] → with_gained before j ≡ j-now → CatchesCommuteInPlace (j-now, k) (j-now, k)
+pub let_by_aside : (j k j-now : Catch) (before : List ContextedPatch) → CommutesGaining j k k [] → with_gained before j ≡ j-now → CatchesCommuteInPlace (j-now, k) (j-now, k)
 let_by_aside j k j-now before passes view = rw (← view) (rw (append-nil before) at (passes before))
 
 -- a catch that has gained nothing is unchanged

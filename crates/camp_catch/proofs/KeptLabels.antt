@@ -1,5 +1,5 @@
 -- Commuting and merging keep labels, and so do arranging, aligning and merging lists.
-use Rattle.camp_catch.proofs.Words.{List, [], ap, append-nil, inl, inr, map, refl, subst, sym, ℕ, ◌++◌, ◌∙◌, ◌∷◌, ◌≡◌, append_assoc, map-append, inverse_of, key_of, label_of, Key, Named, row_passes, MergesOne, Passes, PassesAll, same_key_of_sum, same_alone, AddsToContext, PassesBy, PassesByAll, ContextedPatch, bare, context_key, patch_key, Align, ArrangesAfter, ComesBefore, ComesFirst, catch_key, CommuteCatch, KeepLabels, KeysAlign, KeysPart, keys_of, JoinsWhere, MergeCatch, MergePlainConflictor, MergeLists, MergesWithAll, Catch, Plain, Conflictor}
+use Rattle.camp_catch.proofs.Words.{List, [], ap, append-nil, inl, inr, map, refl, subst, sym, ℕ, ◌++◌, ◌∙◌, ◌∷◌, ◌≡◌, append_assoc, map-append, inverse_of, key_of, label_of, Key, Named, row_passes, MergesOne, Passes, PassesAll, same_key_of_sum, same_alone, AddsToContext, PassesBy, PassesByAll, ContextedPatch, bare, context_key, patch_key, Align, ArrangesAfter, CatchCommutesBeforeAll, CatchMovesToFront, catch_key, CommuteCatch, KeepLabels, KeysAlign, KeysPart, keys_of, JoinsWhere, MergeCatch, MergePlainConflictor, MergeLists, MergesWithAll, Catch, Plain, Conflictor}
 
 passed_key : (p : Named) (s s' : List Named) (p' : Named) → Passes p s s' p' → patch_key p' ≡ patch_key p
 passed_key p [] s' p' w = ap patch_key w.1
@@ -75,7 +75,7 @@ merged_keys (Catch.Conflictor j) (Plain b) k' j' w =
 merged_keys (Catch.Conflictor j) (Catch.Conflictor k) k' j' w =
     (ap catch_key w.after ∙ joined_key _ _ w.moved w.joined w.joins ∙ same_key_of_sum _ k.identity w.moved.identity w.becomes.identity, ap catch_key w.beside ∙ joined_key _ _ w.own w.own_joined w.own_joins ∙ same_key_of_sum _ j.identity w.own.identity w.own_becomes.identity)
 
-before_keys : (list : List Catch) (k k' : Catch) (list' : List Catch) → ComesBefore list k k' list' → (catch_key k' ≡ catch_key k) × (keys_of list' ≡ keys_of list)
+before_keys : (list : List Catch) (k k' : Catch) (list' : List Catch) → CatchCommutesBeforeAll list k k' list' → (catch_key k' ≡ catch_key k) × (keys_of list' ≡ keys_of list)
 before_keys [] k k' list' w = (ap catch_key w.0, ap keys_of w.1)
 before_keys (j ∷ list) k k' list' w =
     let rest = before_keys list k w.0 w.2 w.3 in
@@ -100,7 +100,7 @@ arranged_keys names list first rest w =
     let parts = parts_behind names [] list first rest w in
     subst (KeysPart names (keys_of list) (keys_of first)) (sym parts.2) parts.1
 
-first_keys : (key : Key) (list : List Catch) (k' : Catch) (others : List Catch) → ComesFirst key list k' others → (before : List Key) × (after : List Key) × (catch_key k' ≡ key) × (keys_of list ≡ before ++ key ∷ after) × (keys_of others ≡ before ++ after)
+first_keys : (key : Key) (list : List Catch) (k' : Catch) (others : List Catch) → CatchMovesToFront key list k' others → (before : List Key) × (after : List Key) × (catch_key k' ≡ key) × (keys_of list ≡ before ++ key ∷ after) × (keys_of others ≡ before ++ after)
 first_keys key [] k' others w = absurd w
 first_keys key (j ∷ list) k' others (inl w) =
     ([], keys_of list, ap catch_key w.1 ∙ w.0, ap (λ x. x ∷ keys_of list) w.0, ap keys_of w.2)

@@ -1,3 +1,4 @@
+pub mod Apart
 pub mod CommuteCases
 pub mod CommuteEffects
 pub mod CommuteSteps

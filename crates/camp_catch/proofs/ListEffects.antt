@@ -1,5 +1,5 @@
 -- Lists of catches still fit after a commute of neighbours; a merge of lists is a grid of merges.
-use Rattle.camp_catch.proofs.Words.{List, [], inl, inr, refl, subst, sym, ℕ, ◌++◌, ◌∷◌, ◌≡◌, Files, Key, Align, ArrangesAfter, ComesBefore, ComesFirst, Fits, FitsAll, ListsKeepEffects, MergeLists, MergesWithAll, Catch}
+use Rattle.camp_catch.proofs.Words.{List, [], inl, inr, refl, subst, sym, ℕ, ◌++◌, ◌∷◌, ◌≡◌, Files, Key, Align, ArrangesAfter, CatchCommutesBeforeAll, CatchMovesToFront, Fits, FitsAll, ListsKeepEffects, MergeLists, MergesWithAll, Catch}
 use Rattle.camp_catch.proofs.CommuteEffects.{commute_keeps_effects}
 use Rattle.camp_catch.proofs.MergeEffects.{merge_keeps_effects}
 
@@ -10,7 +10,7 @@ push_fits : (s : List Catch) (k : Catch) (old between new : Files) → FitsAll s
 push_fits [] k old between new f g = (new, subst (λ t. Fits k t new) f g, refl)
 push_fits (j ∷ s) k old between new f g = (f.0, f.1, push_fits s k f.0 between new f.2 g)
 
-pub comes_before_fits : (list : List Catch) (k k' : Catch) (list' : List Catch) → ComesBefore list k k' list' → (old between new : Files) → FitsAll list old between → Fits k between new → (other : Files) × Fits k' old other × FitsAll list' other new
+pub comes_before_fits : (list : List Catch) (k k' : Catch) (list' : List Catch) → CatchCommutesBeforeAll list k k' list' → (old between new : Files) → FitsAll list old between → Fits k between new → (other : Files) × Fits k' old other × FitsAll list' other new
 comes_before_fits [] k k' list' w old between new f g =
     (new, subst (λ x. Fits x old new) (sym w.0) (subst (λ t. Fits k t new) f g), fits_as list' [] new new w.1 refl)
 comes_before_fits (j ∷ list) k k' list' w old between new f g =
@@ -29,7 +29,7 @@ arranged_behind names rest (k ∷ list) first others (inl w) old between new f g
 arranged_behind names rest (k ∷ list) first others (inr w) old between new f g =
     arranged_behind names (rest ++ k ∷ []) list first others w.1 old g.0 new (push_fits rest k old between g.0 f g.1) g.2
 
-comes_first_fits : (key : Key) (list : List Catch) (k' : Catch) (others : List Catch) → ComesFirst key list k' others → (old new : Files) → FitsAll list old new → (between : Files) × Fits k' old between × FitsAll others between new
+comes_first_fits : (key : Key) (list : List Catch) (k' : Catch) (others : List Catch) → CatchMovesToFront key list k' others → (old new : Files) → FitsAll list old new → (between : Files) × Fits k' old between × FitsAll others between new
 comes_first_fits key [] k' others w old new f = absurd w
 comes_first_fits key (j ∷ list) k' others (inl w) old new f =
     (f.0, subst (λ x. Fits x old f.0) (sym w.1) f.1, fits_as others list f.0 new w.2 f.2)

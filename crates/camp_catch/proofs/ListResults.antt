@@ -1,13 +1,13 @@
 -- Commuting and arranging a list of catches gives exactly one result: the catches, or the place where they are
 -- blocked.
-use Rattle.camp_catch.proofs.Words.{Contains, List, [], ap, inl, inr, refl, ℕ, ◌++◌, ◌↔◌, ◌∷◌, ◌⊎◌, Key, among_or_not, keys_or_not, bytes_or_not, Align, AlignIsBlocked, ArrangesAfter, ComesBefore, ComesFirst, IsBlockedAfter, StopsAt, catch_key, ArrangeByMembers, CatchesAreDecided, HasPair, ListsAreUnique, ListsSucceedOrAreBlocked, OneOf, MergeLists, MergeIsBlocked, MergesWithAll, IsBlockedWithin, Catch}
+use Rattle.camp_catch.proofs.Words.{Contains, List, [], ap, inl, inr, refl, ℕ, ◌++◌, ◌↔◌, ◌∷◌, ◌⊎◌, Key, among_or_not, keys_or_not, bytes_or_not, Align, AlignIsBlocked, ArrangesAfter, CatchCommutesBeforeAll, CatchMovesToFront, IsBlockedAfter, IsBlockedByKey, catch_key, ArrangeByMembers, CatchesAreDecided, HasPair, ListsAreUnique, ListsSucceedOrAreBlocked, OneOf, MergeLists, MergeIsBlocked, MergesWithAll, IsBlockedWithin, Catch}
 use Rattle.camp_catch.proofs.CommuteCases.{IsDetermined, commuting}
 use Rattle.camp_catch.proofs.Determined.{Determined, chain, either, just, made_of, not_or_not, one_pair, where_holds}
 use Rattle.camp_catch.proofs.MergeCases.{merging}
 use Rattle.camp_catch.proofs.Settled.{Settled, at_once, both_at_once, beside, by_cases, next, settled_as, settles}
 
 -- the two results of a commute past a list, or the labels where it is blocked
-pub coming : (list : List Catch) (k : Catch) → Settled (λ (p : Catch × List Catch). ComesBefore list k p.0 p.1) (StopsAt list k)
+pub coming : (list : List Catch) (k : Catch) → Settled (λ (p : Catch × List Catch). CatchCommutesBeforeAll list k p.0 p.1) (IsBlockedByKey list k)
 coming [] k = both_at_once k []
 coming (j ∷ list) k =
     settled_as (next (coming list k) (λ p w. settles (commuting j p.0) (catch_key j))) (λ x. (x.1.0, x.1.1 ∷ x.0.1)) (λ x w. (x.0.0, x.1.1, x.0.1, w.0, w.1, refl)) (λ y c. (((c.0, c.2), (y.0, c.1)), (c.3, c.4), λ t. (y.0, c.5 t))) (λ on v. elim v [
@@ -30,7 +30,7 @@ arranging names rest (k ∷ list) =
       | inr u ↦ elim u [ inl w ↦ let come = w.1 in inl (w.0, inr ((come.0, come.1), come.2, come.3)) | inr w ↦ inr w ]
     ])
 
-pub first_of : (key : Key) (list : List Catch) → Determined (λ (p : Catch × List Catch). ComesFirst key list p.0 p.1)
+pub first_of : (key : Key) (list : List Catch) → Determined (λ (p : Catch × List Catch). CatchMovesToFront key list p.0 p.1)
 first_of key [] = record { one = λ x y v w. absurd v; decided = inr (λ w. w.1) }
 first_of key (j ∷ list) =
     let is = keys_or_not (catch_key j) key in
@@ -67,11 +67,11 @@ merging_lists (k ∷ p) q =
 
 pub lists_are_unique : ListsAreUnique
 lists_are_unique = record {
-  comes_before = λ list k. one_pair (ComesBefore list k) (coming list k).one;
+  comes_before = λ list k. one_pair (CatchCommutesBeforeAll list k) (coming list k).one;
   stops_at = λ list k. (coming list k).one_stick;
   arranged = λ names list. one_pair (ArrangesAfter names [] list) (arranging names [] list).one;
   arrange_sticks = λ names list. one_pair (IsBlockedAfter names [] list) (arranging names [] list).one_stick;
-  comes_first = λ key list. one_pair (ComesFirst key list) (first_of key list).one;
+  comes_first = λ key list. one_pair (CatchMovesToFront key list) (first_of key list).one;
   aligned = λ order list. (aligning order list).one;
   align_sticks = λ order list. (aligning order list).one_stick;
   merged_with_all = λ q k. one_pair (MergesWithAll q k) (merging_with_all q k).one;
@@ -92,8 +92,8 @@ are_decided = record { commute = λ j k. pair_or_none (commuting j k); merge = �
 one_of : {X Y Z W : Type 0} {Done : X → Y → Type 0} {Sticks : Z → W → Type 0} → Settled (λ (p : X × Y). Done p.0 p.1) (λ (s : Z × W). Sticks s.0 s.1) → OneOf (HasPair Done) (HasPair Sticks)
 one_of d = (elim d.either [ inl w ↦ inl (w.0.0, w.0.1, w.1) | inr w ↦ inr (w.0.0, w.0.1, w.1) ], λ v w. d.apart (v.0, v.1) (w.0, w.1) v.2 w.2)
 
-pub lists_succeed_or_stick : ListsSucceedOrAreBlocked
-lists_succeed_or_stick = record {
+pub lists_succeed_or_are_blocked : ListsSucceedOrAreBlocked
+lists_succeed_or_are_blocked = record {
   comes_before = λ list k.
       let d = coming list k in
       (elim d.either [ inl w ↦ inl (w.0.0, w.0.1, w.1) | inr w ↦ inr w ], λ v w. d.apart (v.0, v.1) w.0 v.2 w.1);

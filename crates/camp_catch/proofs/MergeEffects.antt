@@ -1,5 +1,5 @@
 -- Merging keeps effects and is symmetric: each case gives a square of trees.
-use Rattle.camp_catch.proofs.Words.{List, [], inl, inr, refl, subst, sym, ◌++◌, ◌∷◌, ◌≡◌, Files, Applies, inverse_of, Named, ordered, split, cut_run, runs_back, cell_is_symmetric, merge_closes, Norm, AppliesAll, inverse_all, run_along, valid_by_adding, valid_by_adding_all, conflict_is_symmetric, merge_behind_is_symmetric, AddsToContext, Conflict, MergesBehindCommon, common_labels, ContextedPatch, Valid, bare, Fits, against, in_conflict_with, with_effect, CatchMergeIsSymmetric, MergeKeepsEffects, Clean, FirstConflict, JoinsWhere, PlainBesideConflictor, PlainJoinsConflictor, TwoConflictors, Catch, Plain, Conflictor}
+use Rattle.camp_catch.proofs.Words.{List, [], inl, inr, refl, subst, sym, ◌++◌, ◌∷◌, ◌≡◌, Files, Applies, inverse_of, Named, ordered, split, cut_run, runs_back, cell_is_symmetric, merge_closes, Norm, AppliesAll, inverse_all, run_along, valid_by_adding, valid_by_adding_all, conflict_is_symmetric, merge_behind_is_symmetric, AddsToContext, Conflict, MergesCleanlyAfterCommon, common_labels, ContextedPatch, Valid, bare, Fits, against, in_conflict_with, with_effect, CatchMergeIsSymmetric, MergeKeepsEffects, Clean, FirstConflict, JoinsWhere, PlainBesideConflictor, PlainJoinsConflictor, TwoConflictors, Catch, Plain, Conflictor}
 use Rattle.camp_catch.proofs.Fitting.{plain_fits, conflictor_fits, becomes_fits, added_fits, joined_fits, one_runs, one_back, row_closes, run_once, only_valid}
 
 -- two catches that fit, each in a tree of its own, and end in the same tree
@@ -43,7 +43,7 @@ plain_joins_conflictor a k k' j' w old left right f g =
     rw (w.after, w.beside) (right, joined_fits taken w.z left right (conflictor_fits taken left right effect g.seen.0 g.seen.1) valid, conflictor_fits (in_conflict_with k.identity w.z) right right refl (only_valid right k.identity g.seen.1) valid)
 
 -- lists that merge cleanly after their common part give a square of trees
-behind_common_closes : (s t t' s' : List Named) → MergesBehindCommon s t t' s' → (old left right : Files) → AppliesAll s old left → AppliesAll t old right → (new : Files) × AppliesAll t' left new × AppliesAll s' right new
+behind_common_closes : (s t t' s' : List Named) → MergesCleanlyAfterCommon s t t' s' → (old left right : Files) → AppliesAll s old left → AppliesAll t old right → (new : Files) × AppliesAll t' left new × AppliesAll s' right new
 behind_common_closes s t t' s' w old left right first second =
     let labels = common_labels s t in
     let one = cut_run w.common w.s1 old left (run_along s (w.common ++ w.s1) (split labels s w.common w.s1 w.first) old left first) in

@@ -1,5 +1,5 @@
 -- Facts at the returns of merging.
-use Rattle.camp_catch.specs.Inside.TwoConflictors.{EffectsMerge, JoinEachOther, DecidesConflict}
+use Rattle.camp_catch.specs.Inside.TwoConflictors.{EffectsMerge, GainEachOther, DecidesConflict}
 use Rattle.camp_catch.proofs.Words.{Bool, IsTrue, List, Option, ap, inl, inr, refl, subst, sym, ◌∙◌, ◌≡◌, FindsPair, inverse_of-inverse_of, inverse_of, Named, passes_row, MergesOne, Norm, Passes, inverse_all, add_of_all_exists, one_add_of_all, members_change, AddsToContext, AddsAll, Conflict, ContextedPatch, ContextedPatches, EachMember, bare, Becomes, joined_by, MergesInto, MergePlainConflictor, PlainBesideConflictor, TwoConflictors, Catch, Plain, Conflictor}
 use Rattle.camp_catch.proofs.MergeEffects.{joins_alike}
 use Rattle.camp_catch.proofs.CommuteSteps.{finds_as}
@@ -28,7 +28,7 @@ module _ (a : Named) (k : Conflictor) (seen : ContextedPatch) (sees : AddsAll k.
   ])
 
 module _ (j k : Conflictor) where
-  pub two_from : (s2 r2 : List Named) (found : Bool) (moved own : Conflictor) (k' j' : Catch) → EffectsMerge j.effect k.effect s2 r2 → DecidesConflict j k found → Becomes (λ t. t ≡ s2) (AddsAll (inverse_all r2)) (AddsAll (inverse_all r2)) k moved → Becomes (λ t. t ≡ r2) (AddsAll (inverse_all moved.effect)) (AddsAll (inverse_all moved.effect)) j own → JoinEachOther found moved own k' j' → TwoConflictors j k k' j'
+  pub two_from : (s2 r2 : List Named) (found : Bool) (moved own : Conflictor) (k' j' : Catch) → EffectsMerge j.effect k.effect s2 r2 → DecidesConflict j k found → Becomes (λ t. t ≡ s2) (AddsAll (inverse_all r2)) (AddsAll (inverse_all r2)) k moved → Becomes (λ t. t ≡ r2) (AddsAll (inverse_all moved.effect)) (AddsAll (inverse_all moved.effect)) j own → GainEachOther found moved own k' j' → TwoConflictors j k k' j'
   two_from s2 r2 found moved own k' j' effects tells becomes own_becomes each = record {
     merged = effects.merged;
     left = effects.left;
@@ -61,7 +61,7 @@ module _ (j k : Conflictor) where
     abbrev own : ContextedPatch → Conflictor
     own identity = record { effect = r2; conflicts = members.0; identity = identity }
 
-    behind_from : (identity : ContextedPatch) → AddsAll (inverse_all moved.effect) j.identity identity → (k' j' : Catch) → JoinEachOther found moved (own identity) k' j' → TwoConflictors j k k' j'
+    behind_from : (identity : ContextedPatch) → AddsAll (inverse_all moved.effect) j.identity identity → (k' j' : Catch) → GainEachOther found moved (own identity) k' j' → TwoConflictors j k k' j'
     behind_from identity adds k' j' =
         two_from s2 r2 found moved (own identity) k' j' effects tells becomes (record { effect = refl; conflicts = members.1; identity = adds })
 

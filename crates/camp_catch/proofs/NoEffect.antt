@@ -11,7 +11,7 @@ use Rattle.camp_ctx.proofs.SetChanges.{unchanged}
 use Rattle.camp_catch.specs.Commuting.{CommuteCatch, EffectsPass, OneOfSeveralConflicts, TwoConflictorsApart}
 use Rattle.camp_catch.specs.Conflictors.{Becomes, joined_by, with_conflicts, without}
 use Rattle.camp_catch.specs.Inside.InPlace.{with_gained}
-use Rattle.camp_catch.specs.Inside.Meetings.{PassesGaining}
+use Rattle.camp_catch.specs.Inside.QuickChecks.{CommutesGaining}
 use Rattle.camp_catch.specs.declared.catches.Catch.{Catch}
 use Rattle.camp_catch.specs.declared.catches.Conflictor.{Conflictor}
 
@@ -73,12 +73,12 @@ leaves_without_effect j k z member several none also =
 
 -- the same whatever the first has gained
 module _ (j k : Conflictor) (none : j.effect ≡ []) (also : k.effect ≡ []) where
-  pub passes_aside : get k.conflicts (context_key j.identity) ≡ None → All (λ p. patch_key p ≢ context_key j.identity) k.identity.context → PassesGaining (Catch.Conflictor j) (Catch.Conflictor k) (Catch.Conflictor k) []
+  pub passes_aside : get k.conflicts (context_key j.identity) ≡ None → All (λ p. patch_key p ≢ context_key j.identity) k.identity.context → CommutesGaining (Catch.Conflictor j) (Catch.Conflictor k) (Catch.Conflictor k) []
   passes_aside apart unseen before =
       let first = with_conflicts (fold with_member j.conflicts before) j in
       subst (λ gained. CommuteCatch (Catch.Conflictor first) (Catch.Conflictor k) (Catch.Conflictor k) (with_gained gained (Catch.Conflictor j))) (sym (append-nil before)) (inl (apart_without_effect first k none also apart unseen))
 
-  pub passes_out : (z : ContextedPatch) → get k.conflicts (context_key j.identity) ≡ Some z → 2 ≤ len k.conflicts → (l : ContextedPatch) → l ≡ k.identity → PassesGaining (Catch.Conflictor j) (Catch.Conflictor k) (Catch.Conflictor (without (context_key j.identity) k)) (l ∷ [])
+  pub passes_out : (z : ContextedPatch) → get k.conflicts (context_key j.identity) ≡ Some z → 2 ≤ len k.conflicts → (l : ContextedPatch) → l ≡ k.identity → CommutesGaining (Catch.Conflictor j) (Catch.Conflictor k) (Catch.Conflictor (without (context_key j.identity) k)) (l ∷ [])
   passes_out z member several l is before =
       let first = with_conflicts (fold with_member j.conflicts before) j in
       let gains : Catch.Conflictor (joined_by k.identity first) ≡ with_gained (before ++ l ∷ []) (Catch.Conflictor j) =

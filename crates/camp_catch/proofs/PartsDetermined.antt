@@ -3,7 +3,7 @@ use Rattle.std.proofs.lemmas.List.Elements.{All-nil, All-cons, All-head, All-tai
 use Rattle.std.specs.List.{All}
 use Rattle.camp_seq.proofs.NormalOrders.{has_normal_order}
 use Rattle.camp_ctx.proofs.SetSteps.{entries-only}
-use Rattle.camp_catch.proofs.Words.{List, [], ap, inl, inr, refl, subst, sym, ◌++◌, ◌∙◌, ◌∷◌, ◌≡◌, ◌≢◌, entries, Decided, decided_by, label_of, Key, Named, one_front, one_order, one_pass, one_pass_of_all, one_split, all_pass_or_not, passes_or_not, splits_or_not, Norm, Splits, Fronts, Passes, PassesAll, add_exists, add_of_all_exists, front_as_or_not, one_add, one_add_of_all, one_passing_by, one_passing_of_all, passing_by_or_not, same_in_context, contexts_or_not, in_context_or_not, keys_or_not, list_passes_by_or_not, lists_or_not, only_or_not, same_alone, both_or_not, members_change, one_change_of_members, AddsToContext, AddsAll, PassesBy, PassesByAll, ContextedPatch, ContextedPatches, EachMember, bare, context_key, only, patch_key, AlwaysGives, GivesOne, EffectsPass, labels_undone, Becomes, against, Conflictor}
+use Rattle.camp_catch.proofs.Words.{List, [], ap, inl, inr, refl, subst, sym, ◌++◌, ◌∙◌, ◌∷◌, ◌≡◌, ◌≢◌, entries, Decided, decided_by, label_of, Key, Named, one_front, one_order, one_pass, one_pass_of_all, one_split, all_pass_or_not, passes_or_not, splits_or_not, Norm, Splits, Fronts, Passes, PassesAll, add_exists, add_of_all_exists, front_as_or_not, one_add, one_add_of_all, one_passing_by, one_passing_of_all, passing_by_or_not, same_in_context, contexts_or_not, in_context_or_not, keys_or_not, list_passes_by_or_not, lists_or_not, only_or_not, same_alone, both_or_not, members_change, one_change_of_members, AddsToContext, AddsAll, PassesBy, PassesByAll, ContextedPatch, ContextedPatches, EachMember, bare, context_key, only, patch_key, AlwaysHasResult, HasAtMostOneResult, EffectsPass, labels_undone, Becomes, against, Conflictor}
 use Rattle.camp_catch.proofs.Determined.{Determined, always, both, chain, just, made_of, not_or_not, pairs}
 
 pub one_passes : (a : Named) (s : List Named) → Determined (λ (p : List Named × Named). Passes a s p.0 p.1)
@@ -63,7 +63,7 @@ against_one a k = record {
 }
 
 -- the conflictor that a conflictor becomes, part by part
-pub becomes : {IsEffect : List Named → Type 0} {Member Identity : ContextedPatch → ContextedPatch → Type 0} (old : Conflictor) → Determined IsEffect → GivesOne Member → AlwaysGives Member → Determined (Identity old.identity) → Determined (Becomes IsEffect Member Identity old)
+pub becomes : {IsEffect : List Named → Type 0} {Member Identity : ContextedPatch → ContextedPatch → Type 0} (old : Conflictor) → Determined IsEffect → HasAtMostOneResult Member → AlwaysHasResult Member → Determined (Identity old.identity) → Determined (Becomes IsEffect Member Identity old)
 becomes {IsEffect} {Member} {Identity} old effect one exists identity =
     let members : Determined (EachMember Member old.conflicts) = always (one_change_of_members Member one old.conflicts) (members_change Member exists old.conflicts) in
     made_of (both effect (both members identity)) conflictor_of (λ x w. record { effect = w.0; conflicts = w.1.0; identity = w.1.1 }) (λ new w. ((new.effect, (new.conflicts, new.identity)), (w.effect, (w.conflicts, w.identity)), refl))

@@ -1,32 +1,32 @@
 -- Plain catches: what blocks the patches of some names on their way to the front is among those of other names that
 -- were moved there.
-use Rattle.camp_catch.proofs.Words.{Contains, List, [], ap, append-nil, inl, inr, map, refl, subst, sym, ℕ, ◌++◌, ◌↔◌, ◌∙◌, ◌∷◌, ◌≡◌, append_assoc, map-append, Key, Named, before, among_or_not, one_precedes, room_before, room_behind, room_of_equivalent, Precedes, HasRoom, bytes_or_not, ArrangesAfter, ComesBefore, IsBlockedAfter, StopsAt, BothPlain, CommuteCatch, FrontsFollowFronts, BlockersAreIncluded, Catch, Plain}
-use Rattle.camp_catch.proofs.ListResults.{lists_are_unique, lists_succeed_or_stick}
+use Rattle.camp_catch.proofs.Words.{Contains, List, [], ap, append-nil, inl, inr, map, refl, subst, sym, ℕ, ◌++◌, ◌↔◌, ◌∙◌, ◌∷◌, ◌≡◌, append_assoc, map-append, Key, Named, before, among_or_not, one_precedes, room_before, room_behind, room_of_equivalent, CommutesBeforeAll, HasRoom, bytes_or_not, ArrangesAfter, CatchCommutesBeforeAll, IsBlockedAfter, IsBlockedByKey, BothPlain, CommuteCatch, FrontsFollowFronts, BlockersAreIncluded, Catch, Plain}
+use Rattle.camp_catch.proofs.ListResults.{lists_are_unique, lists_succeed_or_are_blocked}
 use Rattle.camp_catch.proofs.PlainFronts.{AreOthers, Parted, Stops, comes_or_stops, comes_past_parts, first_comes, one_more, one_other, others_and_one, others_stay, came}
 
 -- a catch that is moved in front of plain catches and is then plain was plain before, and they stay plain
-pub came_plainly : (t : List Named) (k : Named) (k' : Catch) (list' : List Catch) → ComesBefore (map Plain t) (Plain k) k' list' → (p : Named) × (t' : List Named) × Precedes t k p t' × (k' ≡ Plain p) × (list' ≡ map Plain t')
+pub came_plainly : (t : List Named) (k : Named) (k' : Catch) (list' : List Catch) → CatchCommutesBeforeAll (map Plain t) (Plain k) k' list' → (p : Named) × (t' : List Named) × CommutesBeforeAll t k p t' × (k' ≡ Plain p) × (list' ≡ map Plain t')
 came_plainly [] k k' list' w = (k, [], (refl, refl), w.0, w.1)
 came_plainly (j ∷ t) k k' list' w =
     let rest = came_plainly t k w.0 w.2 w.3 in
     let both : BothPlain j rest.0 k' w.1 = subst (λ c. CommuteCatch (Plain j) c k' w.1) rest.3 w.4 in
     (both.b', both.a' ∷ rest.1, (rest.0, both.a', rest.1, rest.2, both.swap, refl), both.second, w.5 ∙ (λ i. both.first i ∷ rest.4 i))
 
-pub comes_plainly : (s : List Named) (k k' : Named) (s' : List Named) → Precedes s k k' s' → ComesBefore (map Plain s) (Plain k) (Plain k') (map Plain s')
+pub comes_plainly : (s : List Named) (k k' : Named) (s' : List Named) → CommutesBeforeAll s k k' s' → CatchCommutesBeforeAll (map Plain s) (Plain k) (Plain k') (map Plain s')
 comes_plainly [] k k' s' w = (ap Plain w.0, ap (map Plain) w.1)
 comes_plainly (j ∷ s) k k' s' w =
     (Plain w.0, Plain w.1, map Plain w.2, comes_plainly s k w.0 w.2 w.3, record { b' = k'; a' = w.1; swap = w.4; second = refl; first = refl }, ap (map Plain) w.5)
 
-pub stops_plainly : (s : List Named) (k : Named) (on : Key) → Stops s k on → StopsAt (map Plain s) (Plain k) on
+pub stops_plainly : (s : List Named) (k : Named) (on : Key) → Stops s k on → IsBlockedByKey (map Plain s) (Plain k) on
 stops_plainly [] k on w = absurd w
 stops_plainly (j ∷ s) k on (inl w) = inl (stops_plainly s k on w)
 stops_plainly (j ∷ s) k on (inr w) =
     inr (Plain w.0, map Plain w.1, comes_plainly s k w.0 w.1 w.2, (λ k' j' both. w.3 both.b' both.a' both.swap), w.4)
 
 -- a catch cannot be both moved to the front and blocked
-pub not_both : {A : Type 0} (s : List Named) (k : Named) (k' : Catch) (list' : List Catch) (on : Key) → ComesBefore (map Plain s) (Plain k) k' list' → StopsAt (map Plain s) (Plain k) on → A
+pub not_both : {A : Type 0} (s : List Named) (k : Named) (k' : Catch) (list' : List Catch) (on : Key) → CatchCommutesBeforeAll (map Plain s) (Plain k) k' list' → IsBlockedByKey (map Plain s) (Plain k) on → A
 not_both s k k' list' on comes stops =
-    absurd ((lists_succeed_or_stick.comes_before (map Plain s) (Plain k)).1 (k', list', comes) (on, stops))
+    absurd ((lists_succeed_or_are_blocked.comes_before (map Plain s) (Plain k)).1 (k', list', comes) (on, stops))
 
 pub one_at_end : (s : List Named) (k : Named) → map Plain s ++ Plain k ∷ [] ≡ map Plain (s ++ k ∷ [])
 one_at_end s k = sym (map-append Plain s (k ∷ []))
@@ -34,7 +34,7 @@ one_at_end s k = sym (map-append Plain s (k ∷ []))
 pub at_end : (s : List Named) (k : Named) (list : List Named) → s ++ k ∷ list ≡ (s ++ k ∷ []) ++ list
 at_end s k list = sym (append_assoc s (k ∷ []) list)
 
-pub room_left : (s list : List Named) (k first : Named) (rest : List Named) → HasRoom ((s ++ k ∷ []) ++ list) → Precedes s k first rest → HasRoom (rest ++ list)
+pub room_left : (s list : List Named) (k first : Named) (rest : List Named) → HasRoom ((s ++ k ∷ []) ++ list) → CommutesBeforeAll s k first rest → HasRoom (rest ++ list)
 room_left s list k first rest room w =
     room_behind first (rest ++ list) (room_of_equivalent _ _ (before (s ++ k ∷ []) (first ∷ rest) list (came s k first rest w)) room)
 
@@ -77,8 +77,8 @@ module _ (names others : List (List ℕ)) (within : (name : List ℕ) → Contai
     ]
   ]
 
-pub what_stops_comes_along : BlockersAreIncluded
-what_stops_comes_along patches names others room within patch on sticks comes =
+pub blockers_are_included : BlockersAreIncluded
+blockers_are_included patches names others room within patch on sticks comes =
     walk names others within [] [] patches [] room (refl, refl) comes.0 comes.1 comes.2 patch on sticks
 
 -- the two parts of a list are what it is arranged to
@@ -132,8 +132,8 @@ module _ (names others wanted : List (List ℕ)) (are : (name : List ℕ) → Co
       let ours = one_other wanted rc all.chosen all.rest k (λ c. v.0 ((are k.name).0 c).0) all.of_wanted in
       two_walks (rt ++ k ∷ []) (rc ++ k ∷ []) list (subst HasRoom (at_end rt k list) room) (subst HasRoom (at_end rc k list) room') (record { first = all.first; chosen = all.chosen; rest = all.rest ++ k ∷ []; of_others = theirs; of_wanted = ours }) first left (subst (λ l. ArrangesAfter names l (map Plain list) first left) (one_at_end rt k) v.1) front behind (subst (λ l. ArrangesAfter others l (map Plain list) front behind) (one_at_end rc k) w.1)
 
-pub fronts_come_behind_fronts : FrontsFollowFronts
-fronts_come_behind_fronts patches names others wanted room are front behind comes theirs =
+pub fronts_follow_fronts : FrontsFollowFronts
+fronts_follow_fronts patches names others wanted room are front behind comes theirs =
     let start : BehindAll names others wanted are [] [] = record { first = []; chosen = []; rest = []; of_others = (refl, refl); of_wanted = (refl, refl) } in
     let w = two_walks names others wanted are [] [] patches room room start theirs.0 theirs.1 theirs.2 front behind comes in
     (map Plain w.1, map Plain w.2, subst (λ l. ArrangesAfter wanted [] l (map Plain w.1) (map Plain w.2)) (sym w.3) (arranged_of_parts wanted [] w.0 w.1 w.2 tt w.4))

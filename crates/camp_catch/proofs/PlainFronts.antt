@@ -1,19 +1,19 @@
 -- What blocks plain patches on their way to the front of a list with headroom.
 use Rattle.camp_seq.proofs.LawOfThree.{law_of_three}
-use Rattle.camp_catch.proofs.Words.{Contains, List, [], ap, inl, inr, refl, subst, sym, ℕ, ◌++◌, ◌∙◌, ◌∷◌, ◌≡◌, ◌⊎◌, append_assoc, swap_or_not, key_of, label_of, Commute, Key, Named, after_one, before, behind, equal_are, passed, swapped, one_precedes, passes_push, precedes_back, room_before, room_behind, room_of_equivalent, backwards, through, ◌~◌, Precedes, Passes, HasRoom}
+use Rattle.camp_catch.proofs.Words.{Contains, List, [], ap, inl, inr, refl, subst, sym, ℕ, ◌++◌, ◌∙◌, ◌∷◌, ◌≡◌, ◌⊎◌, append_assoc, swap_or_not, key_of, label_of, Commute, Key, Named, after_one, before, behind, equal_are, passed, swapped, one_precedes, passes_push, precedes_back, room_before, room_behind, room_of_equivalent, backwards, through, ◌~◌, CommutesBeforeAll, Passes, HasRoom}
 
 -- moving an element in front of a list gives an equivalent list
-pub came : (s : List Named) (k k' : Named) (s' : List Named) → Precedes s k k' s' → (s ++ k ∷ []) ~ (k' ∷ s')
+pub came : (s : List Named) (k k' : Named) (s' : List Named) → CommutesBeforeAll s k k' s' → (s ++ k ∷ []) ~ (k' ∷ s')
 came s k k' s' w = backwards (passed k' s' s k (precedes_back s k k' s' w))
 
 -- headroom at each step: j commutes past a, and k is moved in front of what is after them
-rooms : (j a q p' : Named) (s : List Named) (k k1 : Named) (s1 : List Named) → HasRoom (j ∷ a ∷ (s ++ k ∷ [])) → Commute j a q p' → Precedes s k k1 s1 → HasRoom (p' ∷ (s ++ k ∷ [])) × HasRoom (j ∷ a ∷ k1 ∷ [])
+rooms : (j a q p' : Named) (s : List Named) (k k1 : Named) (s1 : List Named) → HasRoom (j ∷ a ∷ (s ++ k ∷ [])) → Commute j a q p' → CommutesBeforeAll s k k1 s1 → HasRoom (p' ∷ (s ++ k ∷ [])) × HasRoom (j ∷ a ∷ k1 ∷ [])
 rooms j a q p' s k k1 s1 room v n =
     (room_behind q _ (room_of_equivalent _ _ (swapped j a q p' (s ++ k ∷ []) v) room), room_before (j ∷ a ∷ k1 ∷ []) s1 (room_of_equivalent _ _ (after_one j _ _ (after_one a _ _ (came s k k1 s1 n))) room))
 
 -- if j commutes past a list, and k is moved in front of the whole list and j commutes past k after it, then j
 -- commutes past k before the list too
-passes_before : (j : Named) (s s' : List Named) (j' k kt last k1 : Named) (s1 : List Named) → HasRoom (j ∷ (s ++ k ∷ [])) → Passes j s s' j' → Commute j' k kt last → Precedes s k k1 s1 → (first : Named) × (next : Named) × Commute j k1 first next
+passes_before : (j : Named) (s s' : List Named) (j' k kt last k1 : Named) (s1 : List Named) → HasRoom (j ∷ (s ++ k ∷ [])) → Passes j s s' j' → Commute j' k kt last → CommutesBeforeAll s k k1 s1 → (first : Named) × (next : Named) × Commute j k1 first next
 passes_before j [] s' j' k kt last k1 s1 room m w n =
     (kt, last, subst (λ x. Commute x k1 kt last) m.1 (subst (λ x. Commute j' x kt last) (sym n.0) w))
 passes_before j (a ∷ s) s' j' k kt last k1 s1 room m w n =
@@ -29,16 +29,16 @@ record PassesBehind (j' k y j1 : Named) (s' s1 : List Named) : Type 0 where
   last : Named
   rest : List Named
   past_last : Commute j' k coming last
-  past_list : Precedes s' coming y rest
+  past_list : CommutesBeforeAll s' coming y rest
   passes : Passes j1 s1 rest last
 
-passes_behind : (j : Named) (s s' : List Named) (j' k k1 : Named) (s1 : List Named) (y j1 : Named) → HasRoom (j ∷ (s ++ k ∷ [])) → Passes j s s' j' → Precedes s k k1 s1 → Commute j k1 y j1 → PassesBehind j' k y j1 s' s1
+passes_behind : (j : Named) (s s' : List Named) (j' k k1 : Named) (s1 : List Named) (y j1 : Named) → HasRoom (j ∷ (s ++ k ∷ [])) → Passes j s s' j' → CommutesBeforeAll s k k1 s1 → Commute j k1 y j1 → PassesBehind j' k y j1 s' s1
 passes_behind j [] s' j' k k1 s1 y j1 room m n w = record {
   coming = y;
   last = j1;
   rest = [];
   past_last = subst (λ x. Commute x k y j1) (sym m.1) (subst (λ x. Commute j x y j1) n.0 w);
-  past_list = subst (λ t. Precedes t y y []) (sym m.0) (refl, refl);
+  past_list = subst (λ t. CommutesBeforeAll t y y []) (sym m.0) (refl, refl);
   passes = subst (λ t. Passes j1 t [] j1) (sym n.1) (refl, refl);
 }
 passes_behind j (a ∷ s) s' j' k k1 s1 y j1 room m n w =
@@ -50,7 +50,7 @@ passes_behind j (a ∷ s) s' j' k k1 s1 y j1 room m n w =
       last = behind.last;
       rest = six.2 ∷ behind.rest;
       past_last = behind.past_last;
-      past_list = subst (λ t. Precedes t behind.coming y (six.2 ∷ behind.rest)) (sym m.5) (six.0, six.2, behind.rest, behind.past_list, six.3.qr2, refl);
+      past_list = subst (λ t. CommutesBeforeAll t behind.coming y (six.2 ∷ behind.rest)) (sym m.5) (six.0, six.2, behind.rest, behind.past_list, six.3.qr2, refl);
       passes = subst (λ t. Passes j1 t (six.2 ∷ behind.rest) behind.last) (sym n.5) (six.2, six.1, behind.rest, six.3.p1q1, behind.passes, refl);
     }
 
@@ -59,7 +59,7 @@ abbrev pub Stops : List Named → Named → Key → Type 0
 Stops [] k on = ⊥
 Stops (j ∷ s) k on =
     Stops s k on
-    ⊎ ((coming : Named) × (t : List Named) × Precedes s k coming t × ((k' j' : Named) → ¬ (Commute j coming k' j')) × (on ≡ key_of (label_of j)))
+    ⊎ ((coming : Named) × (t : List Named) × CommutesBeforeAll s k coming t × ((k' j' : Named) → ¬ (Commute j coming k' j')) × (on ≡ key_of (label_of j)))
 
 of_swapped : (j k k' j' : Named) → Commute j k k' j' → j'.name ≡ j.name
 of_swapped j k k' j' w = ap (λ l. l.name) w.anywhere.first
@@ -80,7 +80,7 @@ module _ (names : List (List ℕ)) where
       let v = w.1 in
       through (after_one p s (v.0 ++ v.1) (same_parted s v.0 v.1 v.3)) (through (before (p ∷ v.0) (f ++ v.2 ∷ []) v.1 (passed p v.0 f v.2 v.4)) (equal_are _ _ (append_assoc f (v.2 ∷ []) v.1 ∙ ap (λ l. f ++ l) (sym v.5))))
 
-  room_of_front : (j : Named) (s g u : List Named) (k k1 : Named) (u' : List Named) → HasRoom (j ∷ (s ++ k ∷ [])) → Parted s g u → Precedes u k k1 u' → HasRoom (j ∷ (g ++ k1 ∷ []))
+  room_of_front : (j : Named) (s g u : List Named) (k k1 : Named) (u' : List Named) → HasRoom (j ∷ (s ++ k ∷ [])) → Parted s g u → CommutesBeforeAll u k k1 u' → HasRoom (j ∷ (g ++ k1 ∷ []))
   room_of_front j s g u k k1 u' room p n =
       let parts = through (before s (g ++ u) (k ∷ []) (same_parted s g u p)) (equal_are _ _ (append_assoc g u (k ∷ []))) in
       let comes = through (behind g (u ++ k ∷ []) (k1 ∷ u') (came u k k1 u' n)) (equal_are _ _ (sym (append_assoc g (k1 ∷ []) u'))) in
@@ -92,17 +92,17 @@ module _ (names : List (List ℕ)) where
     pub coming : Named
     pub rest : List Named
     pub front : List Named
-    pub comes : Precedes t k coming rest
-    pub past_front : Precedes f coming y front
+    pub comes : CommutesBeforeAll t k coming rest
+    pub past_front : CommutesBeforeAll f coming y front
     pub parted : Parted s' front rest
 
-  pub comes_past_parts : (s f t : List Named) (k y : Named) (s' : List Named) → HasRoom (s ++ k ∷ []) → Parted s f t → Precedes s k y s' → ComesPastParts f t s' k y
+  pub comes_past_parts : (s f t : List Named) (k y : Named) (s' : List Named) → HasRoom (s ++ k ∷ []) → Parted s f t → CommutesBeforeAll s k y s' → ComesPastParts f t s' k y
   comes_past_parts [] f t k y s' room p n = record {
     coming = k;
     rest = [];
     front = [];
-    comes = subst (λ l. Precedes l k k []) (sym p.1) (refl, refl);
-    past_front = subst (λ l. Precedes l k y []) (sym p.0) (n.0, refl);
+    comes = subst (λ l. CommutesBeforeAll l k k []) (sym p.1) (refl, refl);
+    past_front = subst (λ l. CommutesBeforeAll l k y []) (sym p.0) (n.0, refl);
     parted = subst (λ l. Parted l [] []) (sym n.1) (refl, refl);
   }
   comes_past_parts (j ∷ s) f t k y s' room (inl p) n =
@@ -112,7 +112,7 @@ module _ (names : List (List ℕ)) where
         rest = come.rest;
         front = n.1 ∷ come.front;
         comes = come.comes;
-        past_front = subst (λ l. Precedes l come.coming y (n.1 ∷ come.front)) (sym p.1.2) (n.0, n.1, come.front, come.past_front, n.4, refl);
+        past_front = subst (λ l. CommutesBeforeAll l come.coming y (n.1 ∷ come.front)) (sym p.1.2) (n.0, n.1, come.front, come.past_front, n.4, refl);
         parted = subst (λ l. Parted l (n.1 ∷ come.front) come.rest) (sym n.5) (inl (subst (Contains names) (sym (of_swapped j n.0 y n.1 n.4)) p.0, (come.front, come.parted, refl)));
       }
   comes_past_parts (j ∷ s) f t k y s' room (inr p) n =
@@ -123,14 +123,14 @@ module _ (names : List (List ℕ)) where
         coming = three.coming;
         rest = three.last ∷ come.rest;
         front = three.rest;
-        comes = subst (λ l. Precedes l k three.coming (three.last ∷ come.rest)) (sym g.5) (come.coming, three.last, come.rest, come.comes, three.past_last, refl);
+        comes = subst (λ l. CommutesBeforeAll l k three.coming (three.last ∷ come.rest)) (sym g.5) (come.coming, three.last, come.rest, come.comes, three.past_last, refl);
         past_front = three.past_list;
         parted = subst (λ l. Parted l three.rest (three.last ∷ come.rest)) (sym n.5) (inr ((λ c. p.0 (subst (Contains names) (of_swapped j n.0 y n.1 n.4) c)), (come.front, come.rest, three.last, come.parted, three.passes, refl)));
       }
 
   -- an element that can be moved in front of the others of a list can be moved in front of the whole list, or is
   -- blocked by one of the names
-  pub comes_or_stops : (s f t : List Named) (k kt : Named) (t' : List Named) → HasRoom (s ++ k ∷ []) → Parted s f t → Precedes t k kt t' → ((y : Named) × (s' : List Named) × Precedes s k y s') ⊎ ((on : Key) × Stops s k on × Contains names on.name)
+  pub comes_or_stops : (s f t : List Named) (k kt : Named) (t' : List Named) → HasRoom (s ++ k ∷ []) → Parted s f t → CommutesBeforeAll t k kt t' → ((y : Named) × (s' : List Named) × CommutesBeforeAll s k y s') ⊎ ((on : Key) × Stops s k on × Contains names on.name)
   comes_or_stops [] f t k kt t' room p n = inl (k, [], (refl, refl))
   comes_or_stops (j ∷ s) f t k kt t' room (inl p) n = elim (comes_or_stops s p.1.0 t k kt t' (room_behind j (s ++ k ∷ []) room) p.1.1 n) [
     | inr stop ↦ inr (stop.0, inl stop.1, stop.2)
@@ -141,26 +141,26 @@ module _ (names : List (List ℕ)) where
   ]
   comes_or_stops (j ∷ s) f t k kt t' room (inr p) n =
       let g = p.1 in
-      let m = subst (λ l. Precedes l k kt t') g.5 n in
+      let m = subst (λ l. CommutesBeforeAll l k kt t') g.5 n in
       elim (comes_or_stops s g.0 g.1 k m.0 m.2 (room_behind j (s ++ k ∷ []) room) g.3 m.3) [
         | inr stop ↦ inr (stop.0, inl stop.1, stop.2)
         | inl come ↦
             let parts = comes_past_parts s g.0 g.1 k come.0 come.1 (room_behind j (s ++ k ∷ []) room) g.3 come.2 in
             let same = one_precedes g.1 k parts.coming m.0 parts.rest m.2 parts.comes m.3 in
-            let w = passes_before j g.0 f g.2 m.0 kt m.1 come.0 parts.front (room_of_front j s g.0 g.1 k m.0 m.2 room g.3 m.3) g.4 m.4 (subst (λ x. Precedes g.0 x come.0 parts.front) same.0 parts.past_front) in
+            let w = passes_before j g.0 f g.2 m.0 kt m.1 come.0 parts.front (room_of_front j s g.0 g.1 k m.0 m.2 room g.3 m.3) g.4 m.4 (subst (λ x. CommutesBeforeAll g.0 x come.0 parts.front) same.0 parts.past_front) in
             inl (w.0, w.1 ∷ come.1, (come.0, w.1, come.1, come.2, w.2, refl))
       ]
 
   -- one more catch of the names comes after those already moved
-  pub one_more : (s f t : List Named) (k kt : Named) (t' : List Named) → Contains names k.name → Parted s f t → Precedes t k kt t' → Parted (s ++ k ∷ []) (f ++ kt ∷ []) t'
+  pub one_more : (s f t : List Named) (k kt : Named) (t' : List Named) → Contains names k.name → Parted s f t → CommutesBeforeAll t k kt t' → Parted (s ++ k ∷ []) (f ++ kt ∷ []) t'
   one_more [] f t k kt t' is p n =
-      let at : (kt ≡ k) × (t' ≡ []) = subst (λ l. Precedes l k kt t') p.1 n in
+      let at : (kt ≡ k) × (t' ≡ []) = subst (λ l. CommutesBeforeAll l k kt t') p.1 n in
       inl (is, ([], (refl, at.1), λ i. p.0 i ++ at.0 i ∷ []))
   one_more (j ∷ s) f t k kt t' is (inl p) n =
       inl (p.0, (p.1.0 ++ kt ∷ [], one_more s p.1.0 t k kt t' is p.1.1 n, ap (λ l. l ++ kt ∷ []) p.1.2))
   one_more (j ∷ s) f t k kt t' is (inr p) n =
       let g = p.1 in
-      let m = subst (λ l. Precedes l k kt t') g.5 n in
+      let m = subst (λ l. CommutesBeforeAll l k kt t') g.5 n in
       inr (p.0, (g.0 ++ m.0 ∷ [], m.2, m.1, one_more s g.0 g.1 k m.0 m.2 is g.3 m.3, passes_push j g.0 f g.2 m.0 kt m.1 g.4 m.4, m.5))
 
   -- a catch that is of none of the names stays at its position
@@ -196,7 +196,7 @@ module _ (names : List (List ℕ)) where
     pub first : Named
     pub rest : List Named
     pub others : List Named
-    pub comes : Precedes r k first others
+    pub comes : CommutesBeforeAll r k first others
     pub is : f ≡ first ∷ rest
     pub are : AreOthers others
     pub parted : Parted (others ++ list) rest t

@@ -29,7 +29,7 @@ pub use Rattle.camp_seq.proofs.MergeGrid.{cell_is_symmetric, merge_closes, passe
 pub use Rattle.camp_seq.proofs.PassingSteps.{one_precedes, passes_push, precedes_back}
 pub use Rattle.camp_seq.proofs.RoomSteps.{room_before, room_behind, room_of_equivalent}
 pub use Rattle.camp_seq.specs.Equivalence.{backwards, through, ◌~◌}
-pub use Rattle.camp_seq.specs.Inside.InPlace.{Precedes}
+pub use Rattle.camp_seq.specs.Inside.InPlace.{CommutesBeforeAll}
 pub use Rattle.camp_seq.specs.Merging.{Merges, MergesOne}
 pub use Rattle.camp_seq.specs.NormalOrder.{Norm, Splits}
 pub use Rattle.camp_seq.specs.Passing.{Fronts, Passes, PassesAll}
@@ -42,15 +42,15 @@ pub use Rattle.camp_ctx.proofs.ContextsDecided.{conflict_or_not, contexts_or_not
 pub use Rattle.camp_ctx.proofs.NamedDecided.{both_or_not, bytes_or_not, named_or_not}
 pub use Rattle.camp_ctx.proofs.SetChanges.{members_change, members_valid, one_change_of_members}
 pub use Rattle.camp_ctx.specs.Adding.{AddsToContext, AddsAll, PassesBy, PassesByAll}
-pub use Rattle.camp_ctx.specs.Conflicts.{Conflict, MergesBehindCommon, common_labels}
+pub use Rattle.camp_ctx.specs.Conflicts.{Conflict, MergesCleanlyAfterCommon, common_labels}
 pub use Rattle.camp_ctx.specs.Contexts.{AreValid, ContextedPatch, ContextedPatches, EachMember, Valid, bare, context_key, only, patch_key, with_member}
-pub use Rattle.camp_ctx.specs.Laws.{AlwaysGives, GivesOne, KeepsValid}
-pub use Rattle.camp_catch.specs.Arranging.{Align, AlignIsBlocked, Arrange, ArrangeIsBlocked, ArrangesAfter, ComesBefore, ComesFirst, DoNotCommute, IsOf, IsBlockedAfter, StopsAt}
+pub use Rattle.camp_ctx.specs.Laws.{AlwaysHasResult, HasAtMostOneResult, KeepsValid}
+pub use Rattle.camp_catch.specs.Arranging.{Align, AlignIsBlocked, Arrange, ArrangeIsBlocked, ArrangesAfter, CatchCommutesBeforeAll, CatchMovesToFront, DoNotCommute, IsOf, IsBlockedAfter, IsBlockedByKey}
 pub use Rattle.camp_catch.specs.Cases.{CasesExclude, MergeCasesExclude}
 pub use Rattle.camp_catch.specs.Catches.{Fits, FitsAll, IsSeenFrom, catch_key}
 pub use Rattle.camp_catch.specs.Commuting.{BothPlain, CommuteCatch, CommuteConflictors, CommutePlainConflictor, ConflictDissolves, ConflictorPastPlain, EffectsPass, OneOfSeveralConflicts, OnlyConflictGoes, PlainLeavesTheSet, PlainPastConflictor, TwoConflictorsApart, labels_undone}
 pub use Rattle.camp_catch.specs.Conflictors.{Becomes, against, in_conflict_with, joined_by, with_effect, without}
-pub use Rattle.camp_catch.specs.Inside.InPlace.{ComesFirstInPlace, FirstWithKey, LacksKey, MergesInto}
+pub use Rattle.camp_catch.specs.Inside.InPlace.{CatchMovesToFrontInPlace, FirstWithKey, LacksKey, MergesInto}
 pub use Rattle.camp_catch.specs.Laws.{CatchCommuteIsUnique, CommuteKeepsEffects, KeepLabels, KeysAlign, KeysPart, ListsKeepEffects, CatchMergeIsSymmetric, MergeIsUnique, MergeKeepsEffects, keys_of}
 pub use Rattle.camp_catch.specs.ListLaws.{ArrangeByMembers, CatchesAreDecided, FrontsFollowFronts, GivesOnePair, HasPair, ListsAreUnique, ListsSucceedOrAreBlocked, OneOf, BlockersAreIncluded}
 pub use Rattle.camp_catch.specs.Merging.{Clean, FirstConflict, JoinsWhere, MergeCatch, MergePlainConflictor, Mirror, PlainBesideConflictor, PlainJoinsConflictor, TwoConflictors}

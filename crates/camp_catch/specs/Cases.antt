@@ -9,12 +9,12 @@ use Rattle.camp_catch.specs.declared.catches.Conflictor.{Conflictor}
 abbrev pub Exclude : (Catch → Catch → Type 0) → (Catch → Catch → Type 0) → Type 0
 Exclude One Other = (k' j' k j : Catch) → One k' j' → ¬ (Other k j)
 
--- `Exclude` for two cases that take a plain catch and a conflictor
+-- `Exclude` for two cases of a plain catch and a conflictor: whichever these are, at most one case has a result
 abbrev pub PlainExclude :
     (Named → Conflictor → Catch → Catch → Type 0) → (Named → Conflictor → Catch → Catch → Type 0) → Type 0
 PlainExclude One Other = (a : Named) (k : Conflictor) → Exclude (One a k) (Other a k)
 
--- `Exclude` for two cases that take two conflictors
+-- `Exclude` for two cases of two conflictors: whichever these are, at most one case has a result
 abbrev pub ConflictorsExclude :
     (Conflictor → Conflictor → Catch → Catch → Type 0) → (Conflictor → Conflictor → Catch → Catch → Type 0) → Type 0
 ConflictorsExclude One Other = (j k : Conflictor) → Exclude (One j k) (Other j k)

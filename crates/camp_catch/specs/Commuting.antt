@@ -55,7 +55,7 @@ pub record ConflictorPastPlain (j : Conflictor) (b : Named) (k' j' : Catch) : Ty
 abbrev pub labels_undone : List Named → ContextedPatches → List Label
 labels_undone r ys = map label_of (filter (λ p. p.inverse && contains_key ys (patch_key p)) r)
 
--- two effects commute, except for what r undoes of Y, which stays first: r is split by the labels undone
+-- two effects commute, except that those primitives of r stay first that undo a member of Y: r is split by their labels
 -- common rr s ~ common s' rr', where r ~ common rr by the labels undone, and rr s ~ s' rr'
 pub record EffectsPass (r s : List Named) (ys : ContextedPatches) (effect rr' : List Named) : Type 0 where
   pub common : List Named
@@ -85,8 +85,7 @@ pub record TwoConflictorsApart (j k : Conflictor) (k' j' : Catch) : Type 0 where
   pub second : k' ≡ Catch.Conflictor moved
   pub first : j' ≡ Catch.Conflictor own
 
--- the conflict dissolves: k conflicts with a alone, which it undoes
--- [a] ([a^], {:a}, :q) <-> [q] ([q^], {:q}, :a)
+-- the conflict dissolves: k conflicts with a alone and undoes it [a] ([a^], {:a}, :q) <-> [q] ([q^], {:q}, :a)
 pub record ConflictDissolves (a : Named) (k : Conflictor) (k' j' : Catch) : Type 0 where
   pub q : Named
   pub is : k ≡ against a q
@@ -156,7 +155,7 @@ CommuteCatch (Catch.Conflictor j) (Plain b) k' j' = ConflictorPastPlain j b k' j
 CommuteCatch (Catch.Conflictor j) (Catch.Conflictor k) k' j' = CommuteConflictors j k k' j'
 
 -- commuting these two may run out of memory: any two, except plain ones that do not commute
-abbrev pub MayWant : Catch → Catch → Type 0
-MayWant (Plain a) (Plain b) = (b' : Named) × ((a' : Named) × Commute a b b' a')
-MayWant (Plain a) (Catch.Conflictor k) = Unit {0}
-MayWant (Catch.Conflictor j) k = Unit {0}
+abbrev pub CommuteMayAllocate : Catch → Catch → Type 0
+CommuteMayAllocate (Plain a) (Plain b) = (b' : Named) × ((a' : Named) × Commute a b b' a')
+CommuteMayAllocate (Plain a) (Catch.Conflictor k) = Unit {0}
+CommuteMayAllocate (Catch.Conflictor j) k = Unit {0}

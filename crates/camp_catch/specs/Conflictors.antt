@@ -7,7 +7,7 @@ use Rattle.camp_prim.specs.declared.named.Named.{Named}
 use Rattle.camp_ctx.specs.Contexts.{ContextedPatch, ContextedPatches, EachMember, bare, only, with_member}
 use Rattle.camp_catch.specs.declared.catches.Conflictor.{Conflictor}
 
--- ([a^], {:a}, :b): the first conflict of b, with a alone, which it undoes
+-- ([a^], {:a}, :b): b in its first conflict: it conflicts with a alone and undoes it
 abbrev pub against : Named → Named → Conflictor
 against a b = record { effect = inverse_of a ∷ []; conflicts = only (bare a); identity = bare b }
 
@@ -27,7 +27,7 @@ with_conflicts ys k = record { effect = k.effect; conflicts = ys; identity = k.i
 abbrev pub joined_by : ContextedPatch → Conflictor → Conflictor
 joined_by l k = with_conflicts (with_member k.conflicts l) k
 
--- (r, X without a label, i): the conflictor without its conflict of this absolute label
+-- (r, X without a label, i): the conflictor without the member of X that has this absolute label
 abbrev pub without : Key → Conflictor → Conflictor
 without key k = with_conflicts (remove k.conflicts key) k
 

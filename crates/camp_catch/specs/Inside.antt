@@ -1,5 +1,6 @@
 -- Definitions that only private functions use.
 pub mod InPlace
-pub mod Meetings
+pub mod Hashes
+pub mod QuickChecks
 pub mod Seen
 pub mod TwoConflictors

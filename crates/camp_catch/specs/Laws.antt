@@ -50,14 +50,14 @@ pub record ListsKeepEffects : Type 0 where
 abbrev pub keys_of : List Catch → List Key
 keys_of list = map catch_key list
 
--- the keys of these patches, and the others, both in their order
+-- `first` has the keys of the patches with these names, and `rest` the others, both in the order of the list
 abbrev pub KeysPart : List (List ℕ) → List Key → List Key → List Key → Type 0
 KeysPart names [] first rest = (first ≡ []) × (rest ≡ [])
 KeysPart names (key ∷ keys) first rest =
     (Contains names key.name × ((t : List Key) × KeysPart names keys t rest × (first ≡ key ∷ t)))
     ⊎ ((¬ (Contains names key.name)) × ((t : List Key) × KeysPart names keys first t × (rest ≡ key ∷ t)))
 
--- the given keys first, and then the others, in their own order
+-- `aligned` has the keys of `order` first, in that order, and then the other keys in the order of `keys`
 abbrev pub KeysAlign : List Key → List Key → List Key → Type 0
 KeysAlign [] keys aligned = aligned ≡ keys
 KeysAlign (key ∷ order) keys aligned =

@@ -4,7 +4,7 @@ use Rattle.std.specs.Prelude.{◌≡◌, ◌↔◌, ◌⊎◌, ℕ, List, map, C
 use Rattle.camp_prim.specs.declared.labels.Key.{Key}
 use Rattle.camp_prim.specs.declared.named.Named.{Named}
 use Rattle.camp_seq.specs.Room.{HasRoom}
-use Rattle.camp_catch.specs.Arranging.{ComesBefore, StopsAt, DoNotCommute, Arrange, ArrangeIsBlocked, ComesFirst, Align, AlignIsBlocked}
+use Rattle.camp_catch.specs.Arranging.{CatchCommutesBeforeAll, IsBlockedByKey, DoNotCommute, Arrange, ArrangeIsBlocked, CatchMovesToFront, Align, AlignIsBlocked}
 use Rattle.camp_catch.specs.Commuting.{CommuteCatch}
 use Rattle.camp_catch.specs.Merging.{MergeCatch}
 use Rattle.camp_catch.specs.MergingLists.{MergesWithAll, IsBlockedWithin, MergeLists, MergeIsBlocked, DoNotMerge}
@@ -19,14 +19,15 @@ AreEqual x y z w = (x ≡ z) × (y ≡ w)
 abbrev pub GivesOnePair : {X Y : Type 0} → (X → Y → Type 0) → Type 0
 GivesOnePair {X} {Y} Result = (x z : X) (y w : Y) → Result x y → Result z w → AreEqual x y z w
 
--- each relation on lists of catches has at most one result, and each relation for a failure at most one pair of labels
+-- each relation on lists of catches has at most one result, and each relation that says where a list is blocked holds
+-- of at most one pair of labels
 pub record ListsAreUnique : Type 0 where
-  pub comes_before : (list : List Catch) (k : Catch) → GivesOnePair (ComesBefore list k)
+  pub comes_before : (list : List Catch) (k : Catch) → GivesOnePair (CatchCommutesBeforeAll list k)
   pub stops_at :
-      (list : List Catch) (k : Catch) (on other : Key) → StopsAt list k on → StopsAt list k other → on ≡ other
+      (list : List Catch) (k : Catch) (on other : Key) → IsBlockedByKey list k on → IsBlockedByKey list k other → on ≡ other
   pub arranged : (names : List (List ℕ)) (list : List Catch) → GivesOnePair (Arrange names list)
   pub arrange_sticks : (names : List (List ℕ)) (list : List Catch) → GivesOnePair (ArrangeIsBlocked names list)
-  pub comes_first : (key : Key) (list : List Catch) → GivesOnePair (ComesFirst key list)
+  pub comes_first : (key : Key) (list : List Catch) → GivesOnePair (CatchMovesToFront key list)
   pub aligned :
       (order : List Key) (list aligned other : List Catch) → Align order list aligned → Align order list other →
       aligned ≡ other
@@ -59,11 +60,11 @@ pub record CatchesAreDecided : Type 0 where
   pub commute : CommuteIsDecided
   pub merge : MergeIsDecided
 
--- a list has a result or is blocked
+-- arranging, aligning and merging a list has a result, or the list is blocked
 pub record ListsSucceedOrAreBlocked : Type 0 where
   pub comes_before :
       (list : List Catch) (k : Catch) →
-      OneOf (HasPair (ComesBefore list k)) ((on : Key) × StopsAt list k on)
+      OneOf (HasPair (CatchCommutesBeforeAll list k)) ((on : Key) × IsBlockedByKey list k on)
   pub arranges :
       (names : List (List ℕ)) (list : List Catch) →
       OneOf (HasPair (Arrange names list)) (HasPair (ArrangeIsBlocked names list))
@@ -85,8 +86,8 @@ pub record ArrangeByMembers : Type 0 where
       (names others : List (List ℕ)) → ((name : List ℕ) → Contains names name ↔ Contains others name) →
       (list : List Catch) (patch on : Key) → ArrangeIsBlocked names list patch on → ArrangeIsBlocked others list patch on
 
--- of plain catches with headroom: if a patch blocks the patches of some names on their way to the front, every set of
--- patches that includes these names and can be moved to the front has that patch too
+-- if a patch blocks the patches of some names on their way to the front of a list of plain catches with headroom, every
+-- set of patches that includes these names and can be moved to the front includes that patch too
 abbrev pub BlockersAreIncluded : Type 0
 BlockersAreIncluded =
     (patches : List Named) (names others : List (List ℕ)) → HasRoom patches →
@@ -94,8 +95,8 @@ BlockersAreIncluded =
     ArrangeIsBlocked names (map Plain patches) patch on → HasPair (Arrange others (map Plain patches)) →
     Contains others on.name
 
--- of plain catches with headroom: if each of two sets of patches can be moved to the front, then, once the second is
--- there, the rest of the first can be moved to the front of what follows
+-- two sets of patches that can each be moved to the front of a list of plain catches with headroom can be moved there
+-- one after the other: after the second set, what the first has besides it can be moved to the front of the rest
 abbrev pub FrontsFollowFronts : Type 0
 FrontsFollowFronts =
     (patches : List Named) (names others wanted : List (List ℕ)) → HasRoom patches →

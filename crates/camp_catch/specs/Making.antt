@@ -3,7 +3,7 @@ use Rattle.std.specs.Prelude.{Result, Ok, Err}
 use Rattle.camp_catch.specs.declared.faults.Unmade.{Unmade}
 use Rattle.camp_catch.specs.declared.faults.Unmade.TheVariants.{Blocked, Memory}
 
--- if a result is blocked, `By` says why; nothing is said of out of memory
+-- if a result is blocked, `By` holds of the reason; out of memory is always allowed
 abbrev pub IfBlocked : {W : Type 0} → (W → Type 0) → Unmade W → Type 0
 IfBlocked By (Blocked why) = By why
 IfBlocked By Memory = Unit {0}

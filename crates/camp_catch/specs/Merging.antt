@@ -7,7 +7,7 @@ use Rattle.camp_seq.specs.Merging.{Merges, MergesOne}
 use Rattle.camp_seq.specs.NormalOrder.{Norm}
 use Rattle.camp_seq.specs.Running.{inverse_all}
 use Rattle.camp_ctx.specs.Adding.{AddsToContext, AddsAll}
-use Rattle.camp_ctx.specs.Conflicts.{MergesBehindCommon, Conflict}
+use Rattle.camp_ctx.specs.Conflicts.{MergesCleanlyAfterCommon, Conflict}
 use Rattle.camp_ctx.specs.Contexts.{ContextedPatch, bare}
 use Rattle.camp_catch.specs.Conflictors.{Becomes, against, in_conflict_with, joined_by, with_effect}
 use Rattle.camp_catch.specs.declared.catches.Catch.{Catch}
@@ -61,12 +61,12 @@ pub record PlainJoinsConflictor (a : Named) (k : Conflictor) (k' j' : Catch) : T
 abbrev pub MergePlainConflictor : Named → Conflictor → Catch → Catch → Type 0
 MergePlainConflictor a k k' j' = PlainBesideConflictor a k k' j' ⊎ PlainJoinsConflictor a k k' j'
 
--- the mirror: a conflictor and a plain catch, as a plain catch and a conflictor with the two results exchanged
+-- the mirror: a conflictor j and a plain catch b merge as b and j do (the two cases above), with the results exchanged
 -- (r, X, i) | [b] -> [b'] | (r', X', i'), or ([], {i}, z) | (b^ r, X and z, i)
 abbrev pub Mirror : Conflictor → Named → Catch → Catch → Type 0
 Mirror j b k' j' = MergePlainConflictor b j j' k'
 
--- a conflictor gains l as a conflict exactly if a fact holds; else it is unchanged
+-- a conflictor gains l as a conflict if the given fact holds; else it is unchanged
 abbrev pub JoinsWhere : Type 0 → ContextedPatch → Conflictor → Conflictor → Type 0
 JoinsWhere Holds l old new = (Holds × (new ≡ joined_by l old)) ⊎ ((¬ Holds) × (new ≡ old))
 
@@ -76,7 +76,7 @@ JoinsWhere Holds l old new = (Holds × (new ≡ joined_by l old)) ⊎ ((¬ Holds
 pub record TwoConflictors (j k : Conflictor) (k' j' : Catch) : Type 0 where
   pub merged : List Named
   pub left : List Named
-  pub merge : MergesBehindCommon j.effect k.effect merged left
+  pub merge : MergesCleanlyAfterCommon j.effect k.effect merged left
   pub s2 : List Named
   pub r2 : List Named
   pub effect : Norm merged s2

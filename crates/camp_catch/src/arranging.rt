@@ -8,8 +8,8 @@ ghost use Rattle.camp_share.specs.Maps.{map_of};
 ghost use Rattle.camp_catch.specs.Arranging.{Arrange, ArrangeIsBlocked, IsOf};
 ghost use Rattle.camp_catch.specs.Making.{GivesOrRunsOut};
 
-use crate::fast::{Gaining, all_settled};
-use crate::moves::come_before;
+use crate::fast::{Gaining, HashedCatch, all_with_gains};
+use crate::moves::commute_before_all;
 use crate::{Catch, Unmade};
 use camp_base::Name;
 use camp_prim::Key;
@@ -45,18 +45,19 @@ pub fn arrange<V>(
     let mut first = Vec::new(alloc);
     let mut rest = Vec::new(alloc);
     for catch in list {
-        let mut catch = catch.share()?;
+        let catch = catch.share()?;
         if !is_of(names, &catch) {
             rest.push(Gaining::new(alloc, catch))?;
             continue;
         }
         let patch = catch.key();
-        if let Some(on) = come_before(&mut rest, &mut catch)? {
+        let mut coming = HashedCatch::new(catch);
+        if let Some(on) = commute_before_all(&mut rest, &mut coming)? {
             return Err(Unmade::Blocked(Stuck { patch, on }));
         }
-        first.push(catch)?;
+        first.push(coming.into_catch())?;
     }
-    let rest = all_settled(alloc, rest)?;
+    let rest = all_with_gains(alloc, rest)?;
     Ok(Arranged { first, rest })
 }
 

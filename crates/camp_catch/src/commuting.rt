@@ -8,7 +8,7 @@ ghost use Rattle.camp_seq.specs.NormalOrder.{Norm};
 ghost use Rattle.camp_seq.specs.Passing.{Fronts, PassesAll};
 ghost use Rattle.camp_ctx.specs.Adding.{AddsToContext, PassesBy};
 ghost use Rattle.camp_ctx.specs.Contexts.{context_key, patch_key};
-ghost use Rattle.camp_catch.specs.Commuting.{BothPlain, CommuteCatch, CommutePlainConflictor, ConflictDissolves, ConflictorPastPlain, MayWant, PlainLeavesTheSet, PlainPastConflictor};
+ghost use Rattle.camp_catch.specs.Commuting.{BothPlain, CommuteCatch, CommutePlainConflictor, ConflictDissolves, ConflictorPastPlain, CommuteMayAllocate, PlainLeavesTheSet, PlainPastConflictor};
 ghost use Rattle.camp_catch.specs.Conflictors.{Becomes, against};
 ghost use Rattle.camp_catch.specs.declared.catches.Catch.TheVariants.{Plain};
 
@@ -25,7 +25,7 @@ use std::alloc::{AllocError, Global};
 /// then `k`; `None` if they do not commute. Does not run out of memory for two plain catches that do not commute.
 pub fn commute(alloc: Global, j: &Catch, k: &Catch) -> Result<Option<(Catch, Catch)>, AllocError>
     ensures exact { IfOk result (FindsPair (CommuteCatch j.now k.now)) }
-    ensures memory { IfErr result (λ error. MayWant j.now k.now) }
+    ensures memory { IfErr result (λ error. CommuteMayAllocate j.now k.now) }
 {
     match (j, k) {
         (Catch::Plain(a), Catch::Plain(b)) => both_plain(a, b),
@@ -38,7 +38,7 @@ pub fn commute(alloc: Global, j: &Catch, k: &Catch) -> Result<Option<(Catch, Cat
 /// Commutes two plain catches: `[a] [b] <-> [b'] [a']`.
 fn both_plain(a: &Named, b: &Named) -> Result<Option<(Catch, Catch)>, AllocError>
     ensures exact { IfOk result (FindsPair (BothPlain a.now b.now)) }
-    ensures memory { IfErr result (λ error. MayWant (Plain a.now) (Plain b.now)) }
+    ensures memory { IfErr result (λ error. CommuteMayAllocate (Plain a.now) (Plain b.now)) }
 {
     let Some((b, a)) = camp_prim::commute(a, b)? else {
         return Ok(None);
@@ -168,7 +168,7 @@ fn plain_leaves_the_set(
     requires several { 2 ≤ len k.now.conflicts }
     ensures { IfOk result (FindsPair (PlainLeavesTheSet a.now k.now)) }
 {
-    let Some(rest) = behind_inverse(a, &k.effect)? else {
+    let Some(rest) = without_inverse(a, &k.effect)? else {
         return Ok(None);
     };
     let second = without_member(&a.label().key(), rest, k)?;
@@ -178,7 +178,7 @@ fn plain_leaves_the_set(
 
 /// Moves the inverse of `a` to the front of a list, and returns the rest. `None` if it cannot be moved there, or if the
 /// list does not contain it.
-fn behind_inverse(a: &Named, s: &Seq) -> Result<Option<Seq>, AllocError>
+fn without_inverse(a: &Named, s: &Seq) -> Result<Option<Seq>, AllocError>
     ensures { IfOk result
         (Finds (λ rest. Fronts (label_of (inverse_of a.now)) s.now (inverse_of a.now) rest)) }
 {

@@ -9,7 +9,7 @@ ghost use Rattle.camp_catch.specs.Commuting.{CommuteConflictors, EffectsPass, On
 ghost use Rattle.camp_catch.specs.Inside.Seen.{JoinedAfter, JoinsInOrder, LeavesTheOthers};
 
 use crate::seen::{
-    all_pass_before, both_behind, has_no_context, joined, others_before, takes_back,
+    all_pass_before, both_added, has_no_context, joined, others_before, undo_and_join,
 };
 use crate::values::is_undone;
 use crate::{Catch, Conflictor};
@@ -53,7 +53,7 @@ fn two_conflictors_apart(
     let Some(moved) = all_pass_before(&rest, effect, k)? else {
         return Ok(None);
     };
-    let own = both_behind(&k.effect, rest, j)?;
+    let own = both_added(&k.effect, rest, j)?;
     Ok(Some((Catch::Conflictor(moved), Catch::Conflictor(own))))
 }
 
@@ -80,7 +80,7 @@ fn only_conflict_goes(
         return Ok(None);
     }
     let a = seen.patch();
-    let first = takes_back(alloc, a, j, &k.identity)?;
+    let first = undo_and_join(alloc, a, j, &k.identity)?;
     let second = a.try_clone()?;
     Ok(Some((Catch::Plain(second), Catch::Conflictor(first))))
 }
@@ -99,7 +99,7 @@ fn one_of_several_conflicts(
     let Some((moved, rest)) = leaves_the_others(alloc, j, k)? else {
         return Ok(None);
     };
-    let own = joined_behind(&k.effect, rest, j, &k.identity)?;
+    let own = joined_after(&k.effect, rest, j, &k.identity)?;
     Ok(Some((Catch::Conflictor(moved), Catch::Conflictor(own))))
 }
 
@@ -120,14 +120,14 @@ fn leaves_the_others(
 }
 
 /// Makes `(s, X' and l, i')`, where `r^` added to `X` and `i` gives `X'` and `i'`.
-fn joined_behind(r: &Seq, s: Seq, k: &Conflictor, l: &Contexted) -> Result<Conflictor, AllocError>
+fn joined_after(r: &Seq, s: Seq, k: &Conflictor, l: &Contexted) -> Result<Conflictor, AllocError>
     ensures { IfOk result (JoinedAfter (inverse_all r.now) s k.now l.now) }
 {
-    let moved = both_behind(r, s, k)?;
+    let moved = both_added(r, s, k)?;
     joined(moved, l)
 }
 
-/// Commutes two effects, except that those primitives of the first stay first that undo members of a set.
+/// Commutes two effects, but leaves first those primitives of the first effect that undo members of a set.
 fn effects_pass(
     alloc: Global,
     r: &Seq,

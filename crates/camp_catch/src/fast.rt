@@ -1,26 +1,32 @@
 //! Faster ways to the results of the definitions. Each applies in some cases only, and gives the defined result there.
 //!
-//! - Two plain catches that keep their lines commute unchanged and, by the square law, also merge unchanged. Both are
-//! kept, so nothing is allocated.
+//! - Two plain catches that commute without a change of their lines stay the same catches, so nothing is allocated; by
+//! the square law they also merge unchanged.
 //! - A plain catch and a conflictor commute unchanged if the plain one is not in the conflictor's set, passes its
 //! effect unchanged, and leaves its conflicts and its identity unchanged. By the square law, a conflictor and a plain
-//! catch after it commute unchanged if the same holds of the plain one's inverse.
+//! catch after it commute unchanged if these conditions hold of the inverse of the plain one.
 //! - Two conflictors without an effect commute unchanged if the first is neither in the set of the second nor in the
-//! context of its identity: the list that would be added to the sets is empty. If the first is one of several in the
-//! set of the second, it leaves that set, and the second joins the set of the first, whatever conflicts the first has
-//! gained before.
+//! context of its identity: the list that the rule adds to the members of their sets is empty. If the second names the
+//! first among several conflicts, the first is removed from the second's set and the second is inserted into the
+//! first's; conflicts that the first has gained before do not matter.
 //! - A plain catch and a conflictor of the same state merge unchanged if the inverse of the plain one passes the
 //! conflictor unchanged, and the two do not conflict.
-//! - Of a catch that is merged at the end of a pull only one result is made: what it becomes after the branch. What the
-//! branch becomes after it is not needed; that result exists if the first does, since adding always has a result.
-//! - The conflicts that a catch gains on its way through a list are kept beside it, and added to its set at once, when
-//! another step reads the set. That is possible since two conflictors without an effect change only their sets as they
-//! merge: if they conflict, the identity of each joins the set of the other, whatever is in it already.
-mod behind;
+//! - When a catch is merged with the branch at the end of a pull, only what the catch becomes after the branch is
+//! computed. What the branch becomes after the catch is not needed; it exists if the first result does, since adding to
+//! a contexted patch always has a result.
+//! - The conflicts that a catch gains while it is merged with a list are collected beside it, and inserted into its set
+//! together when a later step reads the set. That is possible since two conflictors without an effect change only their
+//! sets as they merge: if they conflict, the identity of each is inserted into the set of the other, whatever is in it
+//! already.
+//! - The hashes of its patch's name and of its path are stored with a catch. If both hashes of two plain catches
+//! differ, the two commute unchanged, and neither catch is read.
+mod after;
 mod gaining;
+mod hashes;
 mod passing;
 mod unmoved;
 
-pub(crate) use behind::merge_behind_all;
-pub(crate) use gaining::{Gaining, all_gaining, all_settled};
-pub(crate) use unmoved::{commute_as_they_are, merge_as_they_are};
+pub(crate) use after::merge_after_all;
+pub(crate) use gaining::{Gaining, HashedCatch, all_gaining, all_with_gains};
+pub(crate) use hashes::hash_of;
+pub(crate) use unmoved::{catches_commute_unchanged, catches_merge_unchanged};

@@ -67,9 +67,9 @@ pub fn catches_are_decided()
     ensures law { CatchesAreDecided }
 {}
 
-/// Every list can be arranged, aligned or merged, or is blocked at some labels, but not both.
-#[tactic(auto, using(crate::proofs::ListResults::lists_succeed_or_stick))]
-pub fn lists_succeed_or_stick()
+/// Arranging, aligning and merging a list either has a result or is blocked at some labels, never both.
+#[tactic(auto, using(crate::proofs::ListResults::lists_succeed_or_are_blocked))]
+pub fn lists_succeed_or_are_blocked()
     ensures law { ListsSucceedOrAreBlocked }
 {}
 
@@ -79,14 +79,14 @@ pub fn arrange_goes_by_members()
     ensures law { ArrangeByMembers }
 {}
 
-/// Of plain catches with headroom: if a patch blocks some patches on their way to the front, every set that has these
-/// patches and can be moved to the front has that patch too.
-pub fn what_stops_comes_along()
+/// If a patch blocks others on their way to the front of a list of plain catches with headroom, every set of patches
+/// that includes those others and can be moved to the front includes that patch too.
+pub fn blockers_are_included()
     ensures law { BlockersAreIncluded }
 {}
 
-/// Of plain catches with headroom: if each of two sets of patches can be moved to the front, then, once the second is
-/// there, the rest of the first can be moved to the front of what follows.
-pub fn fronts_come_behind_fronts()
+/// Two sets of patches that can each be moved to the front of a list of plain catches with headroom can be moved there
+/// one after the other: after the second set, what the first has besides it can be moved to the front of the rest.
+pub fn fronts_follow_fronts()
     ensures law { FrontsFollowFronts }
 {}

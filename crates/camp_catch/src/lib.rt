@@ -23,10 +23,10 @@ pub use catches::{Catch, Conflictor};
 pub use commuting::commute;
 pub use faults::Unmade;
 pub use laws::{
-    arrange_goes_by_members, cases_exclude_one_another, catches_are_decided, commute_is_unique,
-    commute_keeps_effects, fronts_come_behind_fronts, labels_are_kept, lists_are_unique,
-    lists_keep_effects, lists_succeed_or_stick, merge_cases_exclude, merge_is_symmetric,
-    merge_is_unique, merge_keeps_effects, what_stops_comes_along,
+    arrange_goes_by_members, blockers_are_included, cases_exclude_one_another, catches_are_decided,
+    commute_is_unique, commute_keeps_effects, fronts_follow_fronts, labels_are_kept,
+    lists_are_unique, lists_keep_effects, lists_succeed_or_are_blocked, merge_cases_exclude,
+    merge_is_symmetric, merge_is_unique, merge_keeps_effects,
 };
 pub use merging::merge;
 pub use merging_lists::{NoMerge, merge_lists};

@@ -9,21 +9,20 @@ ghost use Rattle.camp_seq.specs.Running.{inverse_all};
 ghost use Rattle.camp_ctx.specs.Adding.{AddsAll};
 ghost use Rattle.camp_ctx.specs.Conflicts.{Conflict};
 ghost use Rattle.camp_ctx.specs.Contexts.{ContextedPatch, bare};
-ghost use Rattle.camp_catch.specs.Inside.TwoConflictors.{EffectsMerge, JoinEachOther, DecidesConflict, DecidesPlainConflict};
+ghost use Rattle.camp_catch.specs.Inside.TwoConflictors.{EffectsMerge, GainEachOther, DecidesConflict, DecidesPlainConflict};
 ghost use Rattle.camp_catch.specs.Merging.{Clean, FirstConflict, MergeCatch, MergePlainConflictor, Mirror, PlainBesideConflictor, PlainJoinsConflictor, TwoConflictors};
 ghost use Rattle.camp_catch.specs.declared.catches.Catch.TheVariants.{Plain};
 
-use crate::seen::{against, both_behind, in_conflict_with, joined, one_before, takes_back};
+use crate::seen::{against, both_added, in_conflict_with, joined, one_before, undo_and_join};
 use crate::values::{bare, inverse};
 use crate::{Catch, Conflictor};
-use camp_ctx::{Contexted, conflict, conflict_behind, merge_behind_common};
+use camp_ctx::{Contexted, conflict, conflict_after_adding, merge_after_common};
 use camp_prim::{Named, commute};
 use camp_seq::{Seq, invert_all, ordered, past};
 use std::alloc::{AllocError, Global};
 
 /// Merges two catches that begin in the same state: `Some((k', j'))`, where `k'` comes after `j`, and `j'` after `k`.
-/// Two plain catches always merge. A conflictor and another catch do not (`None`) if they neither conflict nor merge
-/// cleanly.
+/// Two plain catches always merge. `None` if one of them is a conflictor and they neither conflict nor merge cleanly.
 pub fn merge(alloc: Global, j: &Catch, k: &Catch) -> Result<Option<(Catch, Catch)>, AllocError>
     ensures exact { IfOk result (FindsPair (MergeCatch j.now k.now)) }
 {
@@ -93,7 +92,7 @@ fn plain_and_conflictor(
 pub(crate) fn conflicts_with(alloc: Global, a: &Named, k: &Conflictor) -> Result<bool, AllocError>
     ensures { IfOk result (DecidesPlainConflict a.now k.now) }
 {
-    if let Some(found) = conflict_behind(a, &k.effect, &k.identity)? {
+    if let Some(found) = conflict_after_adding(a, &k.effect, &k.identity)? {
         return Ok(found);
     }
     let own = bare(alloc, a)?;
@@ -124,8 +123,8 @@ fn plain_joins_conflictor(
     requires { (seen : ContextedPatch) × AddsAll k.now.effect k.now.identity seen × Conflict (bare a.now) seen }
     ensures { IfOk result (λ pair. PlainJoinsConflictor a.now k.now pair.0 pair.1) }
 {
-    let z = patch_behind(alloc, &k.effect, a)?;
-    let taken = takes_back(alloc, a, k, &z)?;
+    let z = patch_after(alloc, &k.effect, a)?;
+    let taken = undo_and_join(alloc, a, k, &z)?;
     let beside = in_conflict_with(alloc, &k.identity, &z)?;
     Ok((Catch::Conflictor(taken), Catch::Conflictor(beside)))
 }
@@ -154,8 +153,8 @@ fn two_conflictors(
         return Ok(None);
     };
     let in_conflict = conflict_before(j, k)?;
-    let moved = both_behind(&r2, s2, k)?;
-    let own = both_behind(&moved.effect, r2, j)?;
+    let moved = both_added(&r2, s2, k)?;
+    let own = both_added(&moved.effect, r2, j)?;
     let pair = joined_where(in_conflict, moved, own)?;
     Ok(Some(pair))
 }
@@ -168,7 +167,7 @@ pub(crate) fn merged_effects(
 ) -> Result<Option<(Seq, Seq)>, AllocError>
     ensures exact { IfOk result (FindsPair (EffectsMerge r.now s.now)) }
 {
-    let Some((merged, left)) = merge_behind_common(alloc, r, s)? else {
+    let Some((merged, left)) = merge_after_common(alloc, r, s)? else {
         return Ok(None);
     };
     Ok(Some((ordered(merged), ordered(left))))
@@ -183,20 +182,20 @@ pub(crate) fn conflict_before(j: &Conflictor, k: &Conflictor) -> Result<bool, Al
     conflict(&x, &y)
 }
 
-/// Turns a contexted patch that is seen before a list into what is seen after it.
-pub(crate) fn seen_behind(list: &Seq, x: &Contexted) -> Result<Contexted, AllocError>
+/// Turns a contexted patch, as seen before a list, into what is seen after the list.
+pub(crate) fn seen_after(list: &Seq, x: &Contexted) -> Result<Contexted, AllocError>
     ensures { IfOk result (AddsAll (inverse_all list.now) x.now) }
 {
     let back = invert_all(list)?;
     Contexted::add_given(back, x)
 }
 
-/// Returns `:a`, which is seen before a list, as it is seen after the list.
-fn patch_behind(alloc: Global, list: &Seq, a: &Named) -> Result<Contexted, AllocError>
+/// Turns `:a`, as seen before a list, into what is seen after the list.
+fn patch_after(alloc: Global, list: &Seq, a: &Named) -> Result<Contexted, AllocError>
     ensures { IfOk result (AddsAll (inverse_all list.now) (bare a.now)) }
 {
     let own = bare(alloc, a)?;
-    seen_behind(list, &own)
+    seen_after(list, &own)
 }
 
 /// Adds the identity of each of two conflictors to the set of the other if the two conflict.
@@ -205,7 +204,7 @@ fn joined_where(
     moved: Conflictor,
     own: Conflictor,
 ) -> Result<(Catch, Catch), AllocError>
-    ensures { IfOk result (λ pair. JoinEachOther in_conflict moved own pair.0 pair.1) }
+    ensures { IfOk result (λ pair. GainEachOther in_conflict moved own pair.0 pair.1) }
 {
     if !in_conflict {
         return Ok((Catch::Conflictor(moved), Catch::Conflictor(own)));

@@ -8,8 +8,8 @@ ghost use Rattle.camp_catch.specs.MergingLists.{MergeLists, MergeIsBlocked, Merg
 ghost use Rattle.camp_catch.specs.Catches.{catch_key};
 ghost use Rattle.camp_catch.specs.declared.catches.Catch.{Catch as AnyCatch};
 
-use crate::fast::{Gaining, all_gaining, merge_as_they_are, merge_behind_all};
-use crate::moves::put_both;
+use crate::fast::{Gaining, all_gaining, catches_merge_unchanged, merge_after_all};
+use crate::moves::write_both;
 use crate::{Catch, Unmade, merge};
 use camp_prim::Key;
 use camp_share::{Share, Shared};
@@ -42,7 +42,7 @@ pub fn merge_lists(
         let after = merge_with_all(alloc, &mut beside, catch)?;
         merged.push(after)?;
     }
-    let after = merge_behind_all(alloc, &beside, last)?;
+    let after = merge_after_all(alloc, &beside, last)?;
     merged.push(after)?;
     Ok(merged)
 }
@@ -60,11 +60,11 @@ fn merge_with_all(
 {
     let mut after = Gaining::new(alloc, k.share()?);
     for j in q.iter_mut() {
-        if !j.meet(&mut after)? {
+        if !j.merge_with(&mut after)? {
             return Err(Unmade::Blocked(no_merge(j, &after)));
         }
     }
-    let settled = after.settled()?;
+    let settled = after.with_gains()?;
     Ok(settled)
 }
 
@@ -76,13 +76,13 @@ pub(crate) fn merge_one(
 ) -> Result<bool, AllocError>
     ensures exact { IfOk result (λ done. Changes MergesInPlace (j.old, k.old) done (j.new, k.new)) }
 {
-    if merge_as_they_are(alloc, j, k)? {
+    if catches_merge_unchanged(alloc, j, k)? {
         return Ok(true);
     }
     let Some(pair) = merge(alloc, j, k)? else {
         return Ok(false);
     };
-    put_both(alloc, pair, j, k)?;
+    write_both(alloc, pair, j, k)?;
     Ok(true)
 }
 

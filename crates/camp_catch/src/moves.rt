@@ -1,10 +1,10 @@
 //! Moving a catch within a list.
 ghost use Rattle.std.specs.Prelude.{◌≡◌, IfOk, MatchOption};
 ghost use Rattle.camp_base.specs.Answers.{Changes};
-ghost use Rattle.camp_catch.specs.Arranging.{ComesBefore, StopsAt};
+ghost use Rattle.camp_catch.specs.Arranging.{CatchCommutesBeforeAll, IsBlockedByKey};
 ghost use Rattle.camp_catch.specs.Inside.InPlace.{CatchesCommuteInPlace};
 
-use crate::fast::{Gaining, commute_as_they_are};
+use crate::fast::{Gaining, HashedCatch, catches_commute_unchanged};
 use crate::{Catch, commute};
 use camp_prim::Key;
 use camp_share::Shared;
@@ -12,16 +12,16 @@ use std::alloc::{AllocError, Global};
 
 /// Commutes a catch, which comes after a list, to before all of it, in place. If a catch blocks it, returns the
 /// absolute label of that one; both are then partly commuted.
-pub(crate) fn come_before(
+pub(crate) fn commute_before_all(
     list: &mut [Gaining],
-    coming: &mut Shared<Catch>,
+    coming: &mut HashedCatch,
 ) -> Result<Option<Key>, AllocError>
     ensures exact { IfOk result (λ stopped. MatchOption stopped
-        (ComesBefore list.old coming.old coming.new list.new)
-        (StopsAt list.old coming.old)) }
+        (CatchCommutesBeforeAll list.old coming.old coming.new list.new)
+        (IsBlockedByKey list.old coming.old)) }
 {
     for at in (0..list.len()).rev() {
-        if !list[at].let_pass(coming)? {
+        if !list[at].commute_with(coming)? {
             return Ok(Some(list[at].key()));
         }
     }
@@ -36,18 +36,18 @@ pub(crate) fn commute_in_place(
 ) -> Result<bool, AllocError>
     ensures exact { IfOk result (λ done. Changes CatchesCommuteInPlace (j.old, k.old) done (j.new, k.new)) }
 {
-    if commute_as_they_are(j, k)? {
+    if catches_commute_unchanged(j, k)? {
         return Ok(true);
     }
     let Some(pair) = commute(alloc, j, k)? else {
         return Ok(false);
     };
-    put_both(alloc, pair, j, k)?;
+    write_both(alloc, pair, j, k)?;
     Ok(true)
 }
 
 /// Writes the two results of commuting or merging: the first to `k`, the second to `j`.
-pub(crate) fn put_both(
+pub(crate) fn write_both(
     alloc: Global,
     pair: (Catch, Catch),
     j: &mut Shared<Catch>,

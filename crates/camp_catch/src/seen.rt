@@ -71,7 +71,7 @@ pub(crate) fn others_before(
 }
 
 /// Makes `(s, X', i')`, where `r^` added to `X` and `i` gives `X'` and `i'`.
-pub(crate) fn both_behind(r: &Seq, s: Seq, k: &Conflictor) -> Result<Conflictor, AllocError>
+pub(crate) fn both_added(r: &Seq, s: Seq, k: &Conflictor) -> Result<Conflictor, AllocError>
     ensures { IfOk result (Becomes (λ t. t ≡ s) (AddsAll (inverse_all r.now)) (AddsAll (inverse_all r.now)) k.now) }
 {
     let back = invert_all(r)?;
@@ -111,7 +111,7 @@ pub(crate) fn joined(k: Conflictor, l: &Contexted) -> Result<Conflictor, AllocEr
 }
 
 /// Makes `(s', X and l, i)`, where `s'` is `a^ r` in normal order.
-pub(crate) fn takes_back(
+pub(crate) fn undo_and_join(
     alloc: Global,
     a: &Named,
     k: &Conflictor,

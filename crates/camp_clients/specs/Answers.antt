@@ -1,4 +1,5 @@
--- What an answer says of the history: of the prefix before its call, and of the prefix at which it was given.
+-- What an answer says of two prefixes of the history: the one that its caller had seen before the call, and the one at
+-- which the answer was given.
 use Rattle.std.specs.Prelude.{◌≡◌, ℕ, ◌≤◌, List, [], ◌∷◌, ◌++◌, length, Option, None, Some, Result, Ok, Err, MatchOption}
 use Rattle.camp_object.specs.Asking.{Ask, Caller}
 use Rattle.camp_object.specs.Histories.{IsAccepted, IsAnswered, IsBeginning, own}
@@ -40,8 +41,7 @@ pub record IsDone {Call : Type 0} (seat : ℕ) (before : List (ℕ × Call)) (ca
   pub ends : at_acceptance ++ (seat, call) ∷ [] ≡ prefix
   pub position : at ≡ length prefix
 
--- the answer `Busy`: after the prefix before, at least `tries` calls of other seats were accepted, and none of this
--- seat
+-- the answer `Busy`: since the prefix `before`, other seats had at least `tries` calls accepted, and this seat none
 pub record IsOvertaken {Call : Type 0} (seat tries : ℕ) (before : List (ℕ × Call)) (lost : ℕ)
     (prefix : List (ℕ × Call)) : Type 0 where
   pub others : List (ℕ × Call)
@@ -50,7 +50,7 @@ pub record IsOvertaken {Call : Type 0} (seat tries : ℕ) (before : List (ℕ ×
   pub enough : tries ≤ length others
   pub all_lost : lost ≡ tries
 
--- what an answer says among threads; a reply to a call that was not accepted is that of the object at that prefix
+-- what an answer says among threads; a reply to a call that was not accepted is the object's reply at that prefix
 abbrev pub SaysAmongThreads : {State Call Reply : Type 0} → Sequential State Call Reply → (seat tries : ℕ)
     → List (ℕ × Call) → Call → Result Reply Fault → List (ℕ × Call) → Type 0
 SaysAmongThreads object seat tries before call (Ok reply) prefix =
@@ -69,7 +69,7 @@ SaysAlone object seat before call (Ok reply) prefix =
     (λ at. (prefix ≡ before ++ (seat, call) ∷ []) × (at ≡ length prefix))
 SaysAlone object seat before call (Err fault) prefix = ⊥
 
--- a call that was accepted was so at the replay of the history before it
+-- if the answer says that the call was accepted, the object accepts it at the state after the history before it
 pub record StepsAlone {State Call Reply : Type 0} (object : Sequential State Call Reply) (seat : ℕ)
     (before : List (ℕ × Call)) (call : Call) (answer : Result Reply Fault) (prefix : List (ℕ × Call)) : Type 0 where
   pub says : SaysAlone object seat before call answer prefix

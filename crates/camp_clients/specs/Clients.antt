@@ -24,7 +24,7 @@ module _ {State Call Reply : Type 0} (object : Sequential State Call Reply) (hea
     pub section : Section (SectionStep object (caller_at head before)) (history_of before)
         (section_of sections (seat_number before)) answers (history_of after)
 
-  -- all clients have asked their sections: their seats, and their answers, which come after those of the opening
+  -- all clients have asked their sections: their seats afterwards, and all answers, those of the opening first
   pub record AllRan {Z : Type 0} (opening : Vec (Result Reply Fault) Z) (before after : List (SeatState State Call))
       (answers : List (Vec (Result Reply Fault) Z)) : Type 0 where
     pub brought : List (SeatState State Call × Vec (Result Reply Fault) Z)

@@ -1,15 +1,17 @@
--- Comparing a history with answers, entry by entry; for each section the index after the last call that was found.
+-- Comparing a history with answers, entry by entry: each section has an index, which is after its last call that was
+-- found in the history.
 use Rattle.std.specs.Prelude.{◌≡◌, ℕ, ◌<◌, List, ◌∷◌, ◌++◌, length, drop, slice_index_or, slice_set, Option}
 use Rattle.camp_clients.specs.Positions.{own_at, done_at}
 use Rattle.camp_clients.specs.Runs.{section_of}
 
--- those calls of a seat's section that were accepted, from an index of the section on
+-- the accepted calls of a seat's section, from an index of the section on
 abbrev pub left_from : {Call Answer : Type 0} → (Answer → Option ℕ) → List (List Call) → List (List Answer)
     → (seat from : ℕ) → List (ℕ × Call)
 left_from reported_position sections answers seat from =
     done_at reported_position (drop from (section_of sections seat)) (drop from (section_of answers seat))
 
--- the accepted calls of each section are those found in a prefix of the history, followed by those not found yet
+-- the accepted calls of each section are those found so far, in a prefix of the history, followed by those not found
+-- yet
 abbrev pub AreFoundUpTo : {Call Answer : Type 0} → (Answer → Option ℕ) → List (List Call) → List (List Answer)
     → List (ℕ × Call) → List ℕ → Type 0
 AreFoundUpTo reported_position sections answers prefix indexes = (seat : ℕ) → seat < length sections →

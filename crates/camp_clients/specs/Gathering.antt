@@ -9,7 +9,7 @@ pub record Gathers {Own Fault : Type 0}
   pub begins : all ≡ first ++ others
   pub brought : AllZip (λ one own. one ≡ Ok own) made others
 
--- the seats that threads return, and the answers: those of the opening, followed by theirs
+-- the results of threads, separated: their seats, and all answers, those of the opening first
 pub record AreSeparated {Seat Own Fault : Type 0}
     (opening : Own) (made : List (Result (Seat × Own) Fault)) (seats : List Seat) (all : List Own) : Type 0 where
   pub pairs : List (Seat × Own)

@@ -18,7 +18,8 @@ module _ {State Call Reply : Type 0} (object : Sequential State Call Reply) wher
   LockedIsSerial = (calls : List Call) (answers : List (List (Result Reply Fault))) (history : List (ℕ × Call))
       → IsLocked object (calls ∷ []) answers history → OneByOne object 0 [] (calls ∷ []) answers history
 
-  -- in a serial run whose history is legal, each accepted call was so at the replay of the calls before it
+  -- in a serial run whose history is legal, each call that is reported as accepted was accepted at the state after the
+  -- calls before it
   abbrev pub DoneWasAccepted : Type 0
   DoneWasAccepted = (sections : List (List Call)) (answers : List (List (Result Reply Fault)))
       (history : List (ℕ × Call)) → IsLegal object history → OneByOne object 0 [] sections answers history

@@ -9,7 +9,7 @@ own_at seat before [] = []
 own_at seat before (entry ∷ rest) =
     if entry.0 == seat then (before + 1, entry.1) ∷ own_at seat (before + 1) rest else own_at seat (before + 1) rest
 
--- a list with a call and its position before it, if the call was accepted
+-- the list, with a call and its position put before it if the call was accepted
 abbrev pub where_done : {Call : Type 0} → Option ℕ → Call → List (ℕ × Call) → List (ℕ × Call)
 where_done None call rest = rest
 where_done (Some at) call rest = (at, call) ∷ rest

@@ -23,14 +23,14 @@ abbrev pub OwnDone : {Call Answer : Type 0} → (Answer → Option ℕ) → List
 OwnDone reported_position sections answers history = (seat : ℕ) → seat < length sections →
     own_at seat 0 history ≡ done_at reported_position (section_of sections seat) (section_of answers seat)
 
--- the same, and the history has no calls of other seats
+-- `OwnDone` holds, and the history has no calls of other seats than those of the sections
 pub record IsExactly {Call Answer : Type 0} (reported_position : Answer → Option ℕ) (sections : List (List Call))
     (answers : List (List Answer)) (history : List (ℕ × Call)) : Type 0 where
   pub own_done : OwnDone reported_position sections answers history
   pub no_other : All (λ entry. entry.0 < length sections) history
 
--- sections run one after the other, the first at seat `seat`, the next at `seat + 1`, and so on; the relation holds of
--- each answer at its seat
+-- sections run one after the other, the first at seat `seat`, the next at `seat + 1`, and so on; the given relation
+-- holds of each answer, at the seat of its section
 abbrev pub InTurn : {Prefix Call Answer : Type 0} → (ℕ → Prefix → Call → Answer → Prefix → Type 0) → (seat : ℕ) → Prefix
     → List (List Call) → List (List Answer) → Prefix → Type 0
 InTurn Says seat first [] [] last = first ≡ last
@@ -58,8 +58,8 @@ pub record HasOpening {State Call Reply : Type 0} (object : Sequential State Cal
   pub alone : Section (SaysAlone object 0) [] calls answers last
   pub within : IsBeginning last history
 
--- a run over a lock: one legal history of exactly the calls that were accepted; the opening was asked alone, at a
--- prefix of it
+-- a run over a lock: it has one legal history of exactly the calls that were accepted; the history begins with the
+-- accepted calls of the opening, which was asked alone
 pub record IsLocked {State Call Reply : Type 0} (object : Sequential State Call Reply) (sections : List (List Call))
     (answers : List (List (Result Reply Fault))) (history : List (ℕ × Call)) : Type 0 where
   pub legal : IsLegal object history
@@ -69,8 +69,7 @@ pub record IsLocked {State Call Reply : Type 0} (object : Sequential State Call 
   pub clients : (seat : ℕ) → 0 < seat → seat < length sections →
       AllZip (SaysSomewhere object) (section_of sections seat) (section_of answers seat)
 
--- the answers to a section were given at prefixes of the history, each of which begins with the one before; the first
--- of them begins with `first`
+-- the answers to a section were given at growing prefixes of the history, the first of which begins with `first`
 pub record HasPrefixes {State Call Reply : Type 0} (object : Sequential State Call Reply) (seat tries : ℕ)
     (first : List (ℕ × Call)) (calls : List Call) (answers : List (Result Reply Fault)) (history : List (ℕ × Call))
     : Type 0 where
@@ -78,8 +77,9 @@ pub record HasPrefixes {State Call Reply : Type 0} (object : Sequential State Ca
   pub prefixes : Section (SaysAmongThreads object seat tries) first calls answers last
   pub within : IsBeginning last history
 
--- a run over a head: one legal history of exactly the calls that were accepted; the answers were given at prefixes of
--- it, which grow from the empty prefix for the opening, and from the opening's last prefix for each client
+-- a run over a head: it has one legal history of exactly the calls that were accepted; the answers were given at
+-- growing prefixes of it, from the empty prefix on for the opening, and from the opening's last prefix on for each
+-- client
 pub record IsShared {State Call Reply : Type 0} (object : Sequential State Call Reply) (tries : ℕ)
     (sections : List (List Call)) (answers : List (List (Result Reply Fault))) (history : List (ℕ × Call))
     : Type 0 where

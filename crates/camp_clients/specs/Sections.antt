@@ -1,4 +1,5 @@
--- Sections of calls: how the prefixes at which their answers are given follow one another.
+-- Sections of calls: each answer is given at a prefix of the history, and the next one at a prefix that begins with
+-- that one.
 use Rattle.std.specs.Prelude.{◌≡◌, ℕ, List, [], ◌∷◌}
 use Rattle.camp_history.specs.Opening as opening
 
@@ -10,8 +11,8 @@ most_run_sections = 64
 abbrev pub most_run_tries : ℕ
 most_run_tries = opening.most_tries
 
--- a section: each answer was given at a prefix of the history, and `Says` relates it to that prefix and to the one of
--- the answer before it; `first` is the prefix at the start, and `last` the one at the end
+-- a section: each answer was given at a prefix of the history; `Says` relates the answer to that prefix and to the
+-- prefix of the answer before it. `first` is the prefix before the section, and `last` that of its last answer
 abbrev pub Section : {Prefix Call Answer : Type 0} → (Prefix → Call → Answer → Prefix → Type 0)
     → Prefix → List Call → List Answer → Prefix → Type 0
 Section Says first [] [] last = first ≡ last

@@ -16,15 +16,16 @@ module _ {State Call : Type 0} (head : HeadId State) where
       IsSeatOf head (slice_index_or seats k d) × (seat_number (slice_index_or seats k d) ≡ k + 1)
       × (history_of (slice_index_or seats k d) ≡ [])
 
-  -- a seat was synchronised with another one: it has seen `known`, which is all that the other one had seen, and its
-  -- own calls stay
+  -- a seat was synchronised with another one: it has seen `known`, which is all that the other one had seen, and has no
+  -- new call of its own
   pub record IsSynchronised (known : List (ℕ × Call)) (before after : SeatState State Call) : Type 0 where
     pub is_seat : IsSeatOf head after
     pub number : seat_number after ≡ seat_number before
     pub own_stays : own (seat_number before) (history_of after) ≡ own (seat_number before) (history_of before)
     pub knows : IsBeginning known (history_of after)
 
-  -- a seat is unchanged; at an earlier moment the history had at least `least` calls and all that the seat knows
+  -- the calls that a seat has seen are unchanged; at an earlier moment the history had at least `least` calls and
+  -- included all that the seat had seen
   pub record WasSynchronised (least : ℕ) (history : List (ℕ × Call)) (before after : SeatState State Call) : Type 0 where
     pub is_seat : IsSeatOf head after
     pub number : seat_number after ≡ seat_number before

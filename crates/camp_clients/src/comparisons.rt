@@ -12,8 +12,8 @@ use camp_object::{Fault, Object};
 /// The most sections of a run.
 pub const MAX_SECTIONS: usize = 64;
 
-/// True if a history has exactly the calls that the replies report as accepted, with the numbers of their sections and
-/// at their positions. Makes one pass over the history and the replies.
+/// True if a history has exactly the calls that the replies report as accepted, at the positions that these report,
+/// each with the number of its section. Makes one pass over the history and the replies.
 pub fn has_exactly<State: Object>(
     history: &[(u32, State::Call)],
     sections: &[Vec<State::Call>],
@@ -38,8 +38,8 @@ pub fn has_exactly<State: Object>(
     true
 }
 
-/// True if an entry of the history is the next accepted call of its section, at its position; then moves the section's
-/// index to after that call.
+/// True if an entry of the history is the next accepted call of its section, and the reply has its position; then moves
+/// the section's index to after that call.
 fn matches_next<State: Object>(
     at: u64,
     entry: &(u32, State::Call),

@@ -40,7 +40,7 @@ pub struct HeadPlan<'a, R, State: Object, G, S> {
     ghost every_in_range: { every ≤ most_between_snapshots },
 }
 
-/// The results of sections over one head: the replies to each, and seat 0, that of the first section, which
+/// The results of sections over one head: the replies to each section, and seat 0, the seat of the first section, which
 /// has seen the whole history.
 #[derive(Drop)]
 pub struct HeadRun<State: Object> {

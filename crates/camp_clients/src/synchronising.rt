@@ -37,7 +37,7 @@ pub(crate) fn synchronise_each_with<State: Object>(
 }
 
 /// Synchronises a seat with each of the others, one after the other. Also returns the number of calls that it had seen
-/// after the first of them; 0 if there are no others.
+/// after it was synchronised with the first of the others; 0 if there are no others.
 fn synchronise_with_each<State: Object>(
     alloc: Global,
     head: &Head<State>,
@@ -70,8 +70,8 @@ fn synchronise_with_each<State: Object>(
 }
 
 /// Synchronises a seat with each of the others, so that it has seen all that they have. If no client's thread runs any
-/// more, it finds the whole history at the first of them. If it finds more at a later one, each of them is synchronised
-/// with it once more.
+/// more, the first synchronisation finds the whole history. If a later one finds more, each of the other seats is
+/// synchronised with it once more.
 pub(crate) fn synchronise_with_all<State: Object>(
     alloc: Global,
     head: &Head<State>,

@@ -12,8 +12,8 @@ use crate::{Attribute, encode_attribute_path, encode_path};
 use camp_base::{Apply, BaseFault, Line, Path, Tree};
 use std::alloc::{AllocError, Global};
 
-/// Sets the lines of the file of a path of git or of its attribute, or removes that file. `BadPath` if there are lines,
-/// and the path is not valid in camp.
+/// Sets the lines of the file that stores a path of git, or an attribute of that path; or removes that file. `BadPath`
+/// if there are lines, and the path is not valid in camp.
 pub(crate) fn set_place(
     alloc: Global,
     tree: &mut Tree,

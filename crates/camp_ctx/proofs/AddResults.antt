@@ -1,5 +1,5 @@
 -- Adding and passing by have at most one result, and adding always has one.
-use Rattle.camp_ctx.proofs.Words.{◌≡◌, List, [], ◌∷◌, refl, sym, ap, ◌∙◌, subst, inl, inr, inverse_of, label_of, key_of, Commute, Named, swap_unique, Norm, Passes, Fronts, one_pass, one_front, one_order, passes_or_not, Decided, decided_by, swap_or_not, Cancels, PassesBy, Keeps, AddsToContext, cancel, commute, keep, FromLast, AddsAll, PassesByAll, ContextedPatch, patch_key, context_key, GivesOne, AlwaysGives}
+use Rattle.camp_ctx.proofs.Words.{◌≡◌, List, [], ◌∷◌, refl, sym, ap, ◌∙◌, subst, inl, inr, inverse_of, label_of, key_of, Commute, Named, swap_unique, Norm, Passes, Fronts, one_pass, one_front, one_order, passes_or_not, Decided, decided_by, swap_or_not, Cancels, PassesBy, Keeps, AddsToContext, cancel, commute, keep, FromLast, AddsAll, PassesByAll, ContextedPatch, patch_key, context_key, HasAtMostOneResult, AlwaysHasResult}
 use Rattle.camp_seq.proofs.NormalOrders.{front_or_not, has_normal_order}
 use Rattle.camp_ctx.proofs.NamedDecided.{named_or_not}
 
@@ -10,19 +10,19 @@ same_in_context x y contexts patches = λ i. record { context = contexts i; patc
 same_order : (s t u v : List Named) → s ≡ t → Norm s u → Norm t v → u ≡ v
 same_order s t u v e n m = one_order t u v (subst (λ l. Norm l u) e n) m
 
-pub one_cancel : (a : Named) → GivesOne (Cancels a)
+pub one_cancel : (a : Named) → HasAtMostOneResult (Cancels a)
 one_cancel a x y z v w = same_in_context y z (same_order _ _ _ _ (one_front _ x.context v.rest w.rest (inverse_of a) (inverse_of a) v.front w.front).1 v.context w.context) (v.patch ∙ sym w.patch)
 
-pub one_passing_by : (a : Named) → GivesOne (PassesBy a)
+pub one_passing_by : (a : Named) → HasAtMostOneResult (PassesBy a)
 one_passing_by a x y z v w =
     let pass = one_pass a x.context v.passed w.passed v.a' w.a' v.past_context w.past_context in
     let pair = swap_unique w.a' x.patch y.patch v.a'' z.patch w.a'' (subst (λ b. Commute b x.patch y.patch v.a'') pass.1 v.past_patch) w.past_patch in
     same_in_context y z (same_order _ _ _ _ pass.0 v.context w.context) pair.0
 
-one_keep : (a : Named) → GivesOne (Keeps a)
+one_keep : (a : Named) → HasAtMostOneResult (Keeps a)
 one_keep a x y z v w = same_in_context y z (one_order (a ∷ x.context) y.context z.context v.context w.context) (v.patch ∙ sym w.patch)
 
-pub one_add : (a : Named) → GivesOne (AddsToContext a)
+pub one_add : (a : Named) → HasAtMostOneResult (AddsToContext a)
 one_add a x y z (cancel v) (cancel w) = one_cancel a x y z v w
 one_add a x y z (cancel v) (commute never w) = absurd (never y v)
 one_add a x y z (cancel v) (keep never other w) = absurd (never y v)
@@ -34,15 +34,15 @@ one_add a x y z (keep never none v) (commute other w) = absurd (none z w)
 one_add a x y z (keep never none v) (keep other more w) = one_keep a x y z v w
 
 -- a change of one result makes a change of one result by lists
-pub one_from_last : (Change : Named → ContextedPatch → ContextedPatch → Type 0) → ((a : Named) → GivesOne (Change a)) → (r : List Named) → GivesOne (FromLast Change r)
+pub one_from_last : (Change : Named → ContextedPatch → ContextedPatch → Type 0) → ((a : Named) → HasAtMostOneResult (Change a)) → (r : List Named) → HasAtMostOneResult (FromLast Change r)
 one_from_last Change one [] x y z v w = v ∙ sym w
 one_from_last Change one (a ∷ r) x y z v w =
     one a w.0 y z (subst (λ u. Change a u y) (one_from_last Change one r x v.0 w.0 v.1 w.1) v.2) w.2
 
-pub one_add_of_all : (r : List Named) → GivesOne (AddsAll r)
+pub one_add_of_all : (r : List Named) → HasAtMostOneResult (AddsAll r)
 one_add_of_all = one_from_last AddsToContext one_add
 
-pub one_passing_of_all : (r : List Named) → GivesOne (PassesByAll r)
+pub one_passing_of_all : (r : List Named) → HasAtMostOneResult (PassesByAll r)
 one_passing_of_all = one_from_last PassesBy one_passing_by
 
 -- a label can be moved to the front and is then a given primitive, or can't be
@@ -73,7 +73,7 @@ passing_by_or_not a x = elim (passes_or_not a x.context) [
   | inr never ↦ inr (λ c. never (c.1.passed, c.1.a', c.1.past_context))
 ]
 
-pub add_exists : (a : Named) → AlwaysGives (AddsToContext a)
+pub add_exists : (a : Named) → AlwaysHasResult (AddsToContext a)
 add_exists a x = elim (cancel_or_not a x) [
   | inl c ↦ (c.0, cancel c.1)
   | inr never ↦ elim (passing_by_or_not a x) [
@@ -84,7 +84,7 @@ add_exists a x = elim (cancel_or_not a x) [
   ]
 ]
 
-pub add_of_all_exists : (r : List Named) → AlwaysGives (AddsAll r)
+pub add_of_all_exists : (r : List Named) → AlwaysHasResult (AddsAll r)
 add_of_all_exists [] x = (x, refl)
 add_of_all_exists (a ∷ r) x =
     let rest = add_of_all_exists r x in

@@ -1,7 +1,7 @@
 -- What a body of adding and passing by knows at its answers.
-use Rattle.camp_ctx.proofs.Words.{◌≡◌, ℕ, ◌+◌, ◌<◌, List, [], ◌∷◌, ◌++◌, length, take, drop, get_or, refl, sym, ap, ◌∙◌, subst, drop_more, inverse_of, label_of, Commute, Label, Named, Norm, Passes, Fronts, one_front, one_pass, inverse_of-inverse_of, AddsToContext, AddsAll, Cancels, PassesBy, GivesNone, FromLast, cancel, commute, keep, ContextedPatch, GivesOne}
+use Rattle.camp_ctx.proofs.Words.{◌≡◌, ℕ, ◌+◌, ◌<◌, List, [], ◌∷◌, ◌++◌, length, take, drop, get_or, refl, sym, ap, ◌∙◌, subst, drop_more, inverse_of, label_of, Commute, Label, Named, Norm, Passes, Fronts, one_front, one_pass, inverse_of-inverse_of, AddsToContext, AddsAll, Cancels, PassesBy, HasNoResult, FromLast, cancel, commute, keep, ContextedPatch, HasAtMostOneResult}
 use Rattle.std.proofs.lemmas.List.{take-append-drop}
-use Rattle.camp_ctx.specs.Inside.InPlace.{behind}
+use Rattle.camp_ctx.specs.Inside.InPlace.{in_context}
 use Rattle.camp_seq.proofs.ListSteps.{whole}
 use Rattle.camp_ctx.proofs.AddResults.{one_from_last}
 
@@ -29,28 +29,28 @@ module _ (a : Named) (s : List Named) (label : Label) (first : Named) (rest : Li
 
 -- the three cases of adding a primitive to a context and its patch
 module _ (a : Named) (s : List Named) (p : Named) where
-  pub by_cancelling : (rest left : List Named) → Behind a s rest → Norm rest left → AddsToContext a (behind s p) (behind left p)
+  pub by_cancelling : (rest left : List Named) → Behind a s rest → Norm rest left → AddsToContext a (in_context s p) (in_context left p)
   by_cancelling rest left w order = cancel (record { rest = rest; front = w; context = order; patch = refl })
 
   module _ (never : (rest : List Named) → ¬ (Behind a s rest)) where
-    no_cancelling : GivesNone (Cancels a) (behind s p)
+    no_cancelling : HasNoResult (Cancels a) (in_context s p)
     no_cancelling y w = never w.rest w.front
 
-    pub by_passing : (passing a'' p' : Named) (passed t : List Named) → Passes a s passed passing → Commute passing p p' a'' → Norm passed t → AddsToContext a (behind s p) (behind t p')
+    pub by_passing : (passing a'' p' : Named) (passed t : List Named) → Passes a s passed passing → Commute passing p p' a'' → Norm passed t → AddsToContext a (in_context s p) (in_context t p')
     by_passing passing a'' p' passed t past swap order =
         commute no_cancelling (record { a' = passing; a'' = a''; passed = passed; past_context = past; past_patch = swap; context = order })
 
-    pub by_keeping : (t : List Named) → ((y : Named × List Named × Named) → ¬ ((passing : Named) × Passes a s y.1 passing × Commute passing p y.2 y.0)) → Norm (a ∷ s) t → AddsToContext a (behind s p) (behind t p)
+    pub by_keeping : (t : List Named) → ((y : Named × List Named × Named) → ¬ ((passing : Named) × Passes a s y.1 passing × Commute passing p y.2 y.0)) → Norm (a ∷ s) t → AddsToContext a (in_context s p) (in_context t p)
     by_keeping t none order =
         keep no_cancelling (λ y w. none (w.a'', w.passed, y.patch) (w.a', w.past_context, w.past_patch)) (record { context = order; patch = refl })
 
 -- a context that can not be passed
-pub not_past_context : (a : Named) (x : ContextedPatch) (s : List Named) → s ≡ x.context → ((pair : List Named × Named) → ¬ (Passes a s pair.0 pair.1)) → GivesNone (PassesBy a) x
+pub not_past_context : (a : Named) (x : ContextedPatch) (s : List Named) → s ≡ x.context → ((pair : List Named × Named) → ¬ (Passes a s pair.0 pair.1)) → HasNoResult (PassesBy a) x
 not_past_context a x s is never y w = never (w.passed, w.a') (subst (λ t. Passes a t w.passed w.a') (sym is) w.past_context)
 
 -- the result of commuting past a context
 module _ (a : Named) (x : ContextedPatch) (passed : List Named) (a' : Named) (past : Passes a x.context passed a') where
-  pub not_past_patch : (p : Named) → p ≡ x.patch → ((pair : Named × Named) → ¬ (Commute a' p pair.0 pair.1)) → GivesNone (PassesBy a) x
+  pub not_past_patch : (p : Named) → p ≡ x.patch → ((pair : Named × Named) → ¬ (Commute a' p pair.0 pair.1)) → HasNoResult (PassesBy a) x
   not_past_patch p patch never y w =
       let pass = one_pass a x.context passed w.passed a' w.a' past w.past_context in
       never (y.patch, w.a'') (subst (λ q. Commute a' q y.patch w.a'') (sym patch) (subst (λ b. Commute b x.patch y.patch w.a'') (sym pass.1) w.past_patch))
@@ -80,13 +80,13 @@ one_added a r x copy y alone same w =
     subst (λ z. AddsToContext a z y) (one.1 ∙ same) one.2
 
 -- if the elements from i on were added, and the one before them cannot be, the list cannot be added
-pub none_from_last : (Change : Named → ContextedPatch → ContextedPatch → Type 0) → ((a : Named) → GivesOne (Change a)) → (before : List Named) (a : Named) (r : List Named) (x y : ContextedPatch) → FromLast Change r x y → GivesNone (Change a) y → GivesNone (FromLast Change (before ++ a ∷ r)) x
+pub none_from_last : (Change : Named → ContextedPatch → ContextedPatch → Type 0) → ((a : Named) → HasAtMostOneResult (Change a)) → (before : List Named) (a : Named) (r : List Named) (x y : ContextedPatch) → FromLast Change r x y → HasNoResult (Change a) y → HasNoResult (FromLast Change (before ++ a ∷ r)) x
 none_from_last Change one [] a r x y taken never z w =
     never z (subst (λ u. Change a u z) (one_from_last Change one r x w.0 y w.1 taken) w.2)
 none_from_last Change one (b ∷ before) a r x y taken never z w = none_from_last Change one before a r x y taken never w.0 w.1
 
 -- the same for one step of a loop that goes backwards over the list
-pub none_at_step : (Change : Named → ContextedPatch → ContextedPatch → Type 0) → ((a : Named) → GivesOne (Change a)) → (r : List Named) (i : ℕ) (a : Named) (x y : ContextedPatch) → i < length r → a ≡ get_or r i a → FromLast Change (drop (i + 1) r) x y → GivesNone (Change a) y → GivesNone (FromLast Change r) x
+pub none_at_step : (Change : Named → ContextedPatch → ContextedPatch → Type 0) → ((a : Named) → HasAtMostOneResult (Change a)) → (r : List Named) (i : ℕ) (a : Named) (x y : ContextedPatch) → i < length r → a ≡ get_or r i a → FromLast Change (drop (i + 1) r) x y → HasNoResult (Change a) y → HasNoResult (FromLast Change r) x
 none_at_step Change one r i a x y within is taken never =
     let next : drop i r ≡ a ∷ drop (i + 1) r = drop_more r i a within ∙ ap (λ p. p ∷ drop (i + 1) r) (sym is) in
-    subst (λ s. GivesNone (FromLast Change s) x) (sym (whole r i (a ∷ drop (i + 1) r) next)) (none_from_last Change one (take i r) a (drop (i + 1) r) x y taken never)
+    subst (λ s. HasNoResult (FromLast Change s) x) (sym (whole r i (a ∷ drop (i + 1) r) next)) (none_from_last Change one (take i r) a (drop (i + 1) r) x y taken never)

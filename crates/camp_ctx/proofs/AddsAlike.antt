@@ -1,5 +1,5 @@
 -- What adding makes of a context in whatever order it is.
-use Rattle.camp_ctx.proofs.Words.{◌≡◌, List, [], ◌∷◌, ◌++◌, refl, sym, ap, subst, append_assoc, inverse_of, label_of, Commute, Named, Norm, Passes, AddsToContext, Cancels, PassesBy, GivesNone, cancel, commute, keep, ContextedPatch, whole}
+use Rattle.camp_ctx.proofs.Words.{◌≡◌, List, [], ◌∷◌, ◌++◌, refl, sym, ap, subst, append_assoc, inverse_of, label_of, Commute, Named, Norm, Passes, AddsToContext, Cancels, PassesBy, HasNoResult, cancel, commute, keep, ContextedPatch, whole}
 use Rattle.camp_prim.proofs.CommuteLaws.{own_inverse, square}
 use Rattle.camp_seq.specs.Equivalence.{◌~◌, same, backwards, through}
 use Rattle.camp_seq.specs.Room.{HasRoom}
@@ -38,13 +38,13 @@ module _ (a : Named) (x : ContextedPatch) (room : HasRoom (a ∷ whole x)) where
   room_left : (s : List Named) (a' : Named) → Passes a x.context s a' → HasRoom s
   room_left s a' w = room_before s (a' ∷ []) (room_of_equivalent (a ∷ x.context) (s ++ a' ∷ []) (passed a x.context s a' w) room_of_both)
 
-  not_undone : GivesNone (Cancels a) x → NotUndone a x.context
+  not_undone : HasNoResult (Cancels a) x → NotUndone a x.context
   not_undone never d e =
       let f = comes_first (inverse_of a) x.context d room_of_context e in
       let n = has_normal_order f.0 in
       never (record { context = n.0; patch = x.patch }) (record { rest = f.0; front = f.1; context = n.1; patch = refl })
 
-  not_past : GivesNone (PassesBy a) x → NotPast a x.context x.patch
+  not_past : HasNoResult (PassesBy a) x → NotPast a x.context x.patch
   not_past never d q w =
       let n = has_normal_order w.left in
       never (record { context = n.0; patch = q }) (record {
@@ -84,11 +84,11 @@ module _ (a : Named) (x : ContextedPatch) (room : HasRoom (a ∷ whole x)) where
     same_norm : (s : List Named) → HasRoom s → s ~ y.context → Norm s y.context
     same_norm s there e = normal_form y.context s (room_of_equivalent s y.context e there) (backwards e) y.context own
 
-    never_cancels : NotUndone a x.context → GivesNone (Cancels a) x
+    never_cancels : NotUndone a x.context → HasNoResult (Cancels a) x
     never_cancels never z w =
         never w.rest (fronted (label_of (inverse_of a)) x.context (inverse_of a) w.rest w.front)
 
-    never_passes : NotPast a x.context x.patch → GivesNone (PassesBy a) x
+    never_passes : NotPast a x.context x.patch → HasNoResult (PassesBy a) x
     never_passes none z w = none z.context z.patch (is_past z w)
 
     pub from_sum : Sum a x.context x.patch y.context y.patch → AddsToContext a x y

@@ -1,9 +1,9 @@
 -- Merging after a common part has at most one result and is symmetric; so is conflict.
-use Rattle.camp_ctx.proofs.Words.{◌≡◌, List, [], ◌∷◌, subst, inl, inr, Contains, label_of, Label, Named, CleanMerge, Splits, Parts, one_split, one_clean_merge, merge_is_symmetric, common_labels, MergesBehindCommon, Conflict, ContextedPatch, whole}
+use Rattle.camp_ctx.proofs.Words.{◌≡◌, List, [], ◌∷◌, subst, inl, inr, Contains, label_of, Label, Named, CleanMerge, Splits, Parts, one_split, one_clean_merge, merge_is_symmetric, common_labels, MergesCleanlyAfterCommon, Conflict, ContextedPatch, whole}
 use Rattle.camp_ctx.specs.Laws.{AreSymmetric}
 use Rattle.camp_ctx.proofs.CommonLabels.{common_turned}
 
-pub one_merge_behind : (s t t' s' u v : List Named) → MergesBehindCommon s t t' s' → MergesBehindCommon s t u v → (t' ≡ u) × (s' ≡ v)
+pub one_merge_behind : (s t t' s' u v : List Named) → MergesCleanlyAfterCommon s t t' s' → MergesCleanlyAfterCommon s t u v → (t' ≡ u) × (s' ≡ v)
 one_merge_behind s t t' s' u v a b =
     let first = one_split (common_labels s t) s a.common a.s1 b.common b.s1 a.first b.first in
     let second = one_split (common_labels s t) t a.common a.t1 b.common b.t1 a.second b.second in
@@ -28,7 +28,7 @@ splits_alike ls ms there back s f t w = record {
   rest = w.rest;
 }
 
-pub merge_behind_is_symmetric : (s t t' s' : List Named) → MergesBehindCommon s t t' s' → MergesBehindCommon t s s' t'
+pub merge_behind_is_symmetric : (s t t' s' : List Named) → MergesCleanlyAfterCommon s t t' s' → MergesCleanlyAfterCommon t s s' t'
 merge_behind_is_symmetric s t t' s' w = record {
   common = w.common;
   s1 = w.t1;

@@ -1,10 +1,10 @@
 -- Facts at the returns of a merge after a common part.
-use Rattle.camp_ctx.proofs.Words.{◌≡◌, List, Option, None, Some, sym, ◌∙◌, subst, Label, Named, CleanMerge, Splits, one_split, common_labels, MergesBehindCommon, Conflict, ContextedPatch, whole}
+use Rattle.camp_ctx.proofs.Words.{◌≡◌, List, Option, None, Some, sym, ◌∙◌, subst, Label, Named, CleanMerge, Splits, one_split, common_labels, MergesCleanlyAfterCommon, Conflict, ContextedPatch, whole}
 use Rattle.camp_base.specs.Answers.{FindsPair}
 
 -- no two lists merge after their common part
 abbrev pub NoMerge : List Named → List Named → Type 0
-NoMerge s t = (pair : List Named × List Named) → ¬ (MergesBehindCommon s t pair.0 pair.1)
+NoMerge s t = (pair : List Named × List Named) → ¬ (MergesCleanlyAfterCommon s t pair.0 pair.1)
 
 -- no list is split off
 abbrev NoSplit : List Label → List Named → Type 0
@@ -33,7 +33,7 @@ module _ (s t : List Named) (labels : List Label) (are : labels ≡ common_label
         let b = one_split labels t other beside w.common w.t1 second (split_of t w.common w.t1 w.second) in
         never pair (subst (λ x. CleanMerge x beside pair.0 pair.1) (sym a.1) (subst (λ x. CleanMerge w.s1 x pair.0 pair.1) (sym b.1) w.merge))
 
-    merges_from : common ≡ other → (t' s' : List Named) → CleanMerge rest beside t' s' → MergesBehindCommon s t t' s'
+    merges_from : common ≡ other → (t' s' : List Named) → CleanMerge rest beside t' s' → MergesCleanlyAfterCommon s t t' s'
     merges_from same t' s' merge = record {
       common = common;
       s1 = rest;
@@ -43,7 +43,7 @@ module _ (s t : List Named) (labels : List Label) (are : labels ≡ common_label
       merge = merge;
     }
 
-    pub merges_as_the_rests : common ≡ other → (merged : Option (List Named × List Named)) → FindsPair (CleanMerge rest beside) merged → FindsPair (MergesBehindCommon s t) merged
+    pub merges_as_the_rests : common ≡ other → (merged : Option (List Named × List Named)) → FindsPair (CleanMerge rest beside) merged → FindsPair (MergesCleanlyAfterCommon s t) merged
     merges_as_the_rests same None never = no_clean_merge never
     merges_as_the_rests same (Some pair) merge = merges_from same pair.0 pair.1 merge
 

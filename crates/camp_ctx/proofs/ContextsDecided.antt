@@ -1,5 +1,5 @@
 -- It is decidable whether contexted patches commute and conflict, and whether a set has exactly one member.
-use Rattle.camp_ctx.proofs.Words.{◌≡◌, None, Some, List, [], ◌∷◌, refl, sym, ap, ◌∙◌, subst, inl, inr, entries, same_entries_map, Key, key_cmp, Named, key_total, key_ties, Decided, decided_by, same_or_not, Splits, TwoOrNone, clean_merge_or_not, splits_or_not, PassesBy, PassesByAll, common_labels, MergesBehindCommon, Conflict, ContextedPatch, ContextedPatches, context_key, only, whole}
+use Rattle.camp_ctx.proofs.Words.{◌≡◌, None, Some, List, [], ◌∷◌, refl, sym, ap, ◌∙◌, subst, inl, inr, entries, same_entries_map, Key, key_cmp, Named, key_total, key_ties, Decided, decided_by, same_or_not, Splits, TwoOrNone, clean_merge_or_not, splits_or_not, PassesBy, PassesByAll, common_labels, MergesCleanlyAfterCommon, Conflict, ContextedPatch, ContextedPatches, context_key, only, whole}
 use Rattle.camp_ctx.proofs.AddResults.{one_passing_of_all, passing_by_or_not, same_in_context}
 use Rattle.camp_ctx.proofs.ConflictSteps.{no_first, no_second, other_fronts, merges_as_the_rests}
 use Rattle.camp_ctx.proofs.NamedDecided.{both_or_not, named_or_not}
@@ -31,14 +31,14 @@ list_passes_by_or_not (a ∷ r) x = elim (list_passes_by_or_not r x) [
 ]
 
 -- lists merge after their common part exactly if their rests merge
-merge_of_rests : (s t : List Named) → (v : (f : List Named) × (r : List Named) × Splits (common_labels s t) s f r) → (w : (f : List Named) × (r : List Named) × Splits (common_labels s t) t f r) → Decided (v.0 ≡ w.0) → TwoOrNone (MergesBehindCommon s t)
+merge_of_rests : (s t : List Named) → (v : (f : List Named) × (r : List Named) × Splits (common_labels s t) s f r) → (w : (f : List Named) × (r : List Named) × Splits (common_labels s t) t f r) → Decided (v.0 ≡ w.0) → TwoOrNone (MergesCleanlyAfterCommon s t)
 merge_of_rests s t v w (inl same) = elim (clean_merge_or_not v.1 w.1) [
   | inl m ↦ inl (m.0, m.1, merges_as_the_rests s t (common_labels s t) refl v.0 w.0 v.1 w.1 v.2 w.2 same (Some (m.0, m.1)) m.2)
   | inr never ↦ inr (λ u. merges_as_the_rests s t (common_labels s t) refl v.0 w.0 v.1 w.1 v.2 w.2 same None (λ pair m. never (pair.0, pair.1, m)) (u.0, u.1) u.2)
 ]
 merge_of_rests s t v w (inr apart) = inr (λ u. other_fronts s t (common_labels s t) refl v.0 w.0 v.1 w.1 v.2 w.2 apart (u.0, u.1) u.2)
 
-pub merge_behind_or_not : (s t : List Named) → TwoOrNone (MergesBehindCommon s t)
+pub merge_behind_or_not : (s t : List Named) → TwoOrNone (MergesCleanlyAfterCommon s t)
 merge_behind_or_not s t = elim (splits_or_not (common_labels s t) s) [
   | inl v ↦ elim (splits_or_not (common_labels s t) t) [
     | inl w ↦ merge_of_rests s t v w (lists_or_not v.0 w.0)

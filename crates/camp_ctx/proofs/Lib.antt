@@ -8,7 +8,7 @@ pub mod CommonLabels
 pub mod ConflictLaws
 pub mod ConflictSteps
 pub mod ContextsDecided
-pub mod Elsewhere
+pub mod OtherFiles
 pub mod EntrySteps
 pub mod LinkSteps
 pub mod NamedDecided

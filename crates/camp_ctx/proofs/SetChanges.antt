@@ -1,12 +1,12 @@
 -- Sets whose members change.
-use Rattle.camp_ctx.proofs.Words.{◌≡◌, true, false, cond, T, ◌&&◌, Option, None, Some, List, [], ◌∷◌, map, refl, sym, ap, ◌∙◌, subst, option_map, get, entries, entries_sorted, from_sorted, is_sorted, find, same_map, get-from_sorted, get-entries, below_all, is_lt, eq_by_cmp, same_Some, Files, Named, AddsToContext, AddsAll, ContextedPatch, ContextedPatches, ChangesAt, EachMember, key_cmp, Key, GivesOne, AlwaysGives, Applies, AppliesAll, KeepsValid, KeepsMembersValid, key_total, key_ties}
-use Rattle.camp_ctx.specs.Laws.{AddingGives, AddingIsUnique, EmptyChangesNothing, KeepValid}
+use Rattle.camp_ctx.proofs.Words.{◌≡◌, true, false, cond, T, ◌&&◌, Option, None, Some, List, [], ◌∷◌, map, refl, sym, ap, ◌∙◌, subst, option_map, get, entries, entries_sorted, from_sorted, is_sorted, find, same_map, get-from_sorted, get-entries, below_all, is_lt, eq_by_cmp, same_Some, Files, Named, AddsToContext, AddsAll, ContextedPatch, ContextedPatches, ChangesAt, EachMember, key_cmp, Key, HasAtMostOneResult, AlwaysHasResult, Applies, AppliesAll, KeepsValid, KeepsMembersValid, key_total, key_ties}
+use Rattle.camp_ctx.specs.Laws.{AddingHasResult, AddingIsUnique, EmptyChangesNothing, KeepValid}
 use Rattle.camp_ctx.proofs.AddResults.{add_exists, add_of_all_exists, one_add, one_add_of_all, one_passing_by, one_passing_of_all}
 use Rattle.camp_ctx.proofs.AddValid.{valid_by_adding, valid_by_adding_all, valid_by_passing, valid_by_passing_all}
 use Rattle.camp_ctx.proofs.ConflictLaws.{one_merge_behind}
 
 -- at each label a change of one result has one result
-one_change_at : (Change : ContextedPatch → ContextedPatch → Type 0) → GivesOne Change → (was now other : Option ContextedPatch) → ChangesAt Change was now → ChangesAt Change was other → now ≡ other
+one_change_at : (Change : ContextedPatch → ContextedPatch → Type 0) → HasAtMostOneResult Change → (was now other : Option ContextedPatch) → ChangesAt Change was now → ChangesAt Change was other → now ≡ other
 one_change_at Change one None None None v w = refl
 one_change_at Change one None None (Some z) v w = absurd w
 one_change_at Change one None (Some y) other v w = absurd v
@@ -14,7 +14,7 @@ one_change_at Change one (Some x) None other v w = absurd v
 one_change_at Change one (Some x) (Some y) None v w = absurd w
 one_change_at Change one (Some x) (Some y) (Some z) v w = ap Some (one x y z v w)
 
-pub one_change_of_members : (Change : ContextedPatch → ContextedPatch → Type 0) → GivesOne Change → GivesOne (EachMember Change)
+pub one_change_of_members : (Change : ContextedPatch → ContextedPatch → Type 0) → HasAtMostOneResult Change → HasAtMostOneResult (EachMember Change)
 one_change_of_members Change one xs ys zs v w =
     same_map key_total key_ties ys zs (λ key. one_change_at Change one (get xs key) (get ys key) (get zs key) (v key) (w key))
 
@@ -51,7 +51,7 @@ unfolding with_changed
 get_changed f xs q =
     get-from_sorted key_cmp (changed f (entries xs)) q (subst T (sym (sorted_changed f (entries xs))) (entries_sorted xs)) ∙ find_changed f q (entries xs) ∙ ap (option_map f) (sym (get-entries xs q))
 
-pub members_change : (Change : ContextedPatch → ContextedPatch → Type 0) → AlwaysGives Change → AlwaysGives (EachMember Change)
+pub members_change : (Change : ContextedPatch → ContextedPatch → Type 0) → AlwaysHasResult Change → AlwaysHasResult (EachMember Change)
 members_change Change always xs =
     let f : ContextedPatch → ContextedPatch = λ x. (always x).0 in
     (with_changed f xs, λ key. subst (ChangesAt Change (get xs key)) (sym (get_changed f xs key)) (changes_at Change f (λ x. (always x).1) (get xs key)))
@@ -103,8 +103,8 @@ are_determined = record {
   merges = one_merge_behind;
 }
 
-pub adding_gives : AddingGives
-adding_gives = record {
+pub adding_has_result : AddingHasResult
+adding_has_result = record {
   adds = add_exists;
   adds_all = add_of_all_exists;
   adds_to_members = λ a. members_change (AddsToContext a) (add_exists a);

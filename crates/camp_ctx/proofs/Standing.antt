@@ -1,5 +1,5 @@
 -- Contexted patches that stay unchanged when a primitive that keeps its line commutes past them.
-use Rattle.camp_ctx.proofs.Words.{◌≡◌, ◌∙◌, ℕ, suc, get_or, ◌<◌, ◌≤◌, length, Some, Bool, true, false, cond, List, [], ◌∷◌, ◌++◌, map, refl, sym, ap, subst, inl, inr, arith, slice_get, none-some, same_Some, entries, get-entries, len, len-entries, find, eq_by_cmp, inverse_of, label_of, key_of, key_cmp, Commute, Key, Label, Named, inverse_of-inverse_of, Norm, Splits, Parts, Passes, passes_row, chain_is_ordered, AddsToContext, PassesBy, commute, MergesBehindCommon, common_labels, has_label, Conflict, ChangesAt, ContextedPatches, EachMember, ContextedPatch, whole}
+use Rattle.camp_ctx.proofs.Words.{◌≡◌, ◌∙◌, ℕ, suc, get_or, ◌<◌, ◌≤◌, length, Some, Bool, true, false, cond, List, [], ◌∷◌, ◌++◌, map, refl, sym, ap, subst, inl, inr, arith, slice_get, none-some, same_Some, entries, get-entries, len, len-entries, find, eq_by_cmp, inverse_of, label_of, key_of, key_cmp, Commute, Key, Label, Named, inverse_of-inverse_of, Norm, Splits, Parts, Passes, passes_row, chain_is_ordered, AddsToContext, PassesBy, commute, MergesCleanlyAfterCommon, common_labels, has_label, Conflict, ChangesAt, ContextedPatches, EachMember, ContextedPatch, whole}
 use Rattle.std.proofs.lemmas.List.Folds.{list_any-append}
 use Rattle.std.proofs.Common.{◌||◌}
 use Rattle.std.proofs.lemmas.Bool.{false_from_ne_true}
@@ -62,7 +62,7 @@ module _ (back : Named) (t : List Named) (passes : Passes back t t back) where
       none_in_common (inverse_of back ∷ []) t (false_from_ne_true _ (λ has. has_other_labels back t t back passes _ refl (in_from_has t _ has)), tt)
 
   -- if the inverse commutes past a list in normal order, and all stay unchanged, the primitive merges with the list
-  pub merges_aside : Norm t t → MergesBehindCommon (inverse_of back ∷ []) t t (inverse_of back ∷ [])
+  pub merges_aside : Norm t t → MergesCleanlyAfterCommon (inverse_of back ∷ []) t t (inverse_of back ∷ [])
   merges_aside own = record {
     common = [];
     s1 = inverse_of back ∷ [];
@@ -73,11 +73,11 @@ module _ (back : Named) (t : List Named) (passes : Passes back t t back) where
   }
 
 -- the same of a patch without a context, and of what a body has of the two
-pub merge_aside_told : (x : ContextedPatch) (t others own : List Named) (first back : Named) → x.context ≡ [] → first ≡ x.patch → back ≡ inverse_of first → others ≡ t → Passes back others others back → own ≡ t → Norm own own → MergesBehindCommon (whole x) t t (whole x)
+pub merge_aside_told : (x : ContextedPatch) (t others own : List Named) (first back : Named) → x.context ≡ [] → first ≡ x.patch → back ≡ inverse_of first → others ≡ t → Passes back others others back → own ≡ t → Norm own own → MergesCleanlyAfterCommon (whole x) t t (whole x)
 merge_aside_told x t others own first back none copy turned theirs passes also ordered =
     let forth : inverse_of back ≡ x.patch = ap inverse_of (turned ∙ ap inverse_of copy) ∙ inverse_of-inverse_of x.patch in
     let list : inverse_of back ∷ [] ≡ whole x = ap (λ q. q ∷ []) forth ∙ ap (λ c. c ++ x.patch ∷ []) (sym none) in
-    subst (λ l. MergesBehindCommon l t t l) list
+    subst (λ l. MergesCleanlyAfterCommon l t t l) list
     (merges_aside back t (subst (λ l. Passes back l l back) theirs passes) (subst (λ l. Norm l l) also ordered))
 
 -- a label that the context has, and one that the patch has or neither
@@ -116,4 +116,4 @@ firsts_stop s t rest more p q first second never = rw (first, second) (λ t' s' 
 pub none_behind : (a patch : Named) (s : List Named) → Passes (inverse_of a) (s ++ patch ∷ []) (s ++ patch ∷ []) (inverse_of a) → Norm (s ++ patch ∷ []) (s ++ patch ∷ []) → ¬ (Conflict (bare a) (record { context = s; patch = patch }))
 none_behind a patch s passes own conflict =
     let t : List Named = s ++ patch ∷ [] in
-    conflict t (a ∷ []) (subst (λ p. MergesBehindCommon (p ∷ []) t t (p ∷ [])) (inverse_of-inverse_of a) (merges_aside (inverse_of a) t passes own))
+    conflict t (a ∷ []) (subst (λ p. MergesCleanlyAfterCommon (p ∷ []) t t (p ∷ [])) (inverse_of-inverse_of a) (merges_aside (inverse_of a) t passes own))

@@ -26,8 +26,8 @@ pub use Rattle.camp_seq.specs.NormalOrder.{Norm, Splits}
 pub use Rattle.camp_seq.specs.Passing.{Fronts, Parts, Passes}
 pub use Rattle.camp_seq.specs.Running.{AppliesAll}
 pub use Rattle.camp_share.specs.Maps.{map_of}
-pub use Rattle.camp_ctx.specs.Adding.{AddsToContext, AddsAll, Cancels, FromLast, GivesNone, Keeps, PassesBy, PassesByAll, cancel, commute, keep}
-pub use Rattle.camp_ctx.specs.Conflicts.{Conflict, MergesBehindCommon, common_labels, has_label}
+pub use Rattle.camp_ctx.specs.Adding.{AddsToContext, AddsAll, Cancels, FromLast, HasNoResult, Keeps, PassesBy, PassesByAll, cancel, commute, keep}
+pub use Rattle.camp_ctx.specs.Conflicts.{Conflict, MergesCleanlyAfterCommon, common_labels, has_label}
 pub use Rattle.camp_ctx.specs.Contexts.{AreKeyed, ChangesAt, ContextedPatch, ContextedPatches, EachMember, Valid, context_key, only, patch_key, whole, with_member}
 pub use Rattle.camp_ctx.specs.Inside.Links.{Links}
-pub use Rattle.camp_ctx.specs.Laws.{AlwaysGives, GivesOne, KeepsMembersValid, KeepsValid}
+pub use Rattle.camp_ctx.specs.Laws.{AlwaysHasResult, HasAtMostOneResult, KeepsMembersValid, KeepsValid}

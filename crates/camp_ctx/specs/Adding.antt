@@ -29,17 +29,17 @@ pub record Keeps (a : Named) (x y : ContextedPatch) : Type 0 where
   pub context : Norm (a ∷ x.context) y.context
   pub patch : y.patch ≡ x.patch
 
--- a relation has no result for these
-abbrev pub GivesNone : (ContextedPatch → ContextedPatch → Type 0) → ContextedPatch → Type 0
-GivesNone Change x = (y : ContextedPatch) → ¬ (Change x y)
+-- a relation has no result for this contexted patch
+abbrev pub HasNoResult : (ContextedPatch → ContextedPatch → Type 0) → ContextedPatch → Type 0
+HasNoResult Change x = (y : ContextedPatch) → ¬ (Change x y)
 
 -- adding a to a contexted patch: of cancel, commute and keep, the first that has a result
 pub data AddsToContext (a : Named) (x y : ContextedPatch) : Type 0 where
   cancel : Cancels a x y → AddsToContext a x y
-  commute : GivesNone (Cancels a) x → PassesBy a x y → AddsToContext a x y
-  keep : GivesNone (Cancels a) x → GivesNone (PassesBy a) x → Keeps a x y → AddsToContext a x y
+  commute : HasNoResult (Cancels a) x → PassesBy a x y → AddsToContext a x y
+  keep : HasNoResult (Cancels a) x → HasNoResult (PassesBy a) x → Keeps a x y → AddsToContext a x y
 
--- a relation is applied with each element of a list, from the last to the first
+-- a contexted patch is changed by the relation of each element of a list, from the last element to the first
 abbrev pub FromLast : (Named → ContextedPatch → ContextedPatch → Type 0) → List Named → ContextedPatch → ContextedPatch → Type 0
 FromLast Change [] x z = z ≡ x
 FromLast Change (a ∷ r) x z = (y : ContextedPatch) × FromLast Change r x y × Change a y z

@@ -19,7 +19,7 @@ common_labels s t = filter (has_label t) (map label_of s)
 
 -- two lists of the same state merge cleanly after their common part: s ~ common s1 and t ~ common t1, and s1 and t1
 -- merge cleanly to t' and s'
-pub record MergesBehindCommon (s t t' s' : List Named) : Type 0 where
+pub record MergesCleanlyAfterCommon (s t t' s' : List Named) : Type 0 where
   pub common : List Named
   pub s1 : List Named
   pub t1 : List Named
@@ -29,4 +29,4 @@ pub record MergesBehindCommon (s t t' s' : List Named) : Type 0 where
 
 -- c:p and d:q conflict unless c p and d q merge cleanly after their common part
 abbrev pub Conflict : ContextedPatch → ContextedPatch → Type 0
-Conflict x y = (t' s' : List Named) → ¬ (MergesBehindCommon (whole x) (whole y) t' s')
+Conflict x y = (t' s' : List Named) → ¬ (MergesCleanlyAfterCommon (whole x) (whole y) t' s')

@@ -52,7 +52,7 @@ with_member xs l = if contains_key xs (context_key l) then xs else insert xs (co
 abbrev pub AreValid : Files → ContextedPatches → Type 0
 AreValid tree xs = (key : Key) (x : ContextedPatch) → get xs key ≡ Some x → Valid tree x
 
--- the values of a key in two sets: none in both, or a member and what it becomes
+-- a key in two sets: both lack it, or the first has a member under it and the second has what that member becomes
 abbrev pub ChangesAt : (ContextedPatch → ContextedPatch → Type 0) → Option ContextedPatch → Option ContextedPatch → Type 0
 ChangesAt Change None None = Unit {0}
 ChangesAt Change None (Some y) = ⊥

@@ -6,7 +6,7 @@ ghost use Rattle.camp_prim.specs.Labels.{label_of};
 ghost use Rattle.camp_seq.specs.NormalOrder.{Norm};
 ghost use Rattle.camp_seq.specs.Passing.{Fronts, Passes};
 ghost use Rattle.camp_ctx.specs.Adding.{AddsToContext, AddsAll, PassesBy, PassesByAll};
-ghost use Rattle.camp_ctx.specs.Inside.InPlace.{KeepsOrder, behind};
+ghost use Rattle.camp_ctx.specs.Inside.InPlace.{KeepsOrder, in_context};
 
 use crate::Contexted;
 use crate::conflicts::has_label;
@@ -41,7 +41,7 @@ impl Contexted {
         }
         let patch = x.patch().try_clone()?;
         let told = are_own_orders_of_chain(r.items(), &patch);
-        Contexted::told(x.allocator(), r, patch, told)
+        Contexted::with_checks(x.allocator(), r, patch, told)
     }
 
     /// Adds a primitive: removes its inverse from the front of the context if it can be moved there; else commutes it
@@ -75,7 +75,7 @@ impl Contexted {
     pub fn past_one(a: &Named, x: &Contexted) -> Result<Option<Contexted>, AllocError>
         ensures exact { IfOk result (Finds (PassesBy a.now x.now)) }
     {
-        if x.stays_behind(a) {
+        if x.stays_unchanged(a) {
             return Ok(Some(x.try_clone()?));
         }
         let Some((context, moved)) = past(a, x.context())? else {
@@ -85,8 +85,8 @@ impl Contexted {
     }
 }
 
-/// Commutes past the patch a primitive that has already passed the context: `a` before the context, `moved` after it.
-/// `None` if it cannot pass the patch.
+/// Commutes a primitive that has already passed the context past the patch: it was `a` before the context, and is
+/// `moved` after it. `None` if it cannot pass the patch.
 fn past_patch(
     a: &Named,
     mut context: Seq,
@@ -100,7 +100,7 @@ fn past_patch(
         return Ok(None);
     };
     let told = order_passed(a, &mut context, &patch, x.context_is_ordered());
-    let before = made(x.allocator(), context, patch, told)?;
+    let before = make_contexted(x.allocator(), context, patch, told)?;
     Ok(Some(before))
 }
 
@@ -126,7 +126,7 @@ fn add_to_copy(r: &[Named], x: &Contexted) -> Result<Contexted, AllocError>
     for at in (0..r.len()).rev() {
         told = add_to(&r[at], &mut context, &mut patch, told)?;
     }
-    made(x.allocator(), context, patch, told)
+    make_contexted(x.allocator(), context, patch, told)
 }
 
 /// Copies the context, with capacity for `more` further elements.
@@ -139,14 +139,14 @@ fn copy_with_room(x: &Contexted, more: usize) -> Result<Seq, AllocError>
     Ok(copy)
 }
 
-/// Adds a primitive to a context and the patch after it, in place. `told` and the result are true only if the context
-/// is its own normal order, before and after.
+/// Adds a primitive to a context and the patch after it, in place. `told` is true only if the context is its own normal
+/// order before that, and the result is true only if it is so afterwards.
 fn add_to(a: &Named, context: &mut Seq, patch: &mut Named, told: bool) -> Result<bool, AllocError>
     requires { IsTrue told → Norm context.old context.old }
-    ensures adds { IfOk result (λ told. AddsToContext a.now (behind context.old patch.old) (behind context.new patch.new)) }
+    ensures adds { IfOk result (λ told. AddsToContext a.now (in_context context.old patch.old) (in_context context.new patch.new)) }
     ensures own { IfOk result (λ told. IsTrue told → Norm context.new context.new) }
 {
-    if let Some(rest) = behind_inverse(a, context)? {
+    if let Some(rest) = without_inverse(a, context)? {
         *context = rest;
         return Ok(put_in_order(context));
     }
@@ -161,8 +161,9 @@ fn add_to(a: &Named, context: &mut Seq, patch: &mut Named, told: bool) -> Result
 /// Puts in normal order a context that `a` has passed, and after it `patch`. True only if the context is then its own
 /// normal order.
 ///
-/// With `told`, the context was its own normal order before. It is then not ordered again if `a` and the rest have
-/// headroom to merge: then `a^`, the context and the patch have headroom, since `a^` reaches as far as `a`.
+/// If `told` is true, the context was its own normal order before. Then it need not be ordered again if `a` has
+/// headroom to merge with the context and the patch: in that case `a^`, the context and the patch have headroom,
+/// because `a^` changes the same lines as `a`.
 fn order_passed(a: &Named, context: &mut Seq, patch: &Named, told: bool) -> bool
     requires { IsTrue told → KeepsOrder a.now context.old patch.now }
     ensures order { Norm context.old context.new }
@@ -178,8 +179,8 @@ fn order_passed(a: &Named, context: &mut Seq, patch: &Named, told: bool) -> bool
 }
 
 /// Moves the inverse of `a` to the front of the list, and returns the list after it. `None` if the list has no
-/// primitive with its label that can be moved there, or that primitive is not the inverse of `a`.
-fn behind_inverse(a: &Named, s: &Seq) -> Result<Option<Seq>, AllocError>
+/// primitive with the inverse label that can be moved there, or that primitive is not the inverse of `a`.
+fn without_inverse(a: &Named, s: &Seq) -> Result<Option<Seq>, AllocError>
     ensures exact { IfOk result
         (Finds (λ rest. Fronts (label_of (inverse_of a.now)) s.now (inverse_of a.now) rest)) }
 {
@@ -198,10 +199,15 @@ fn behind_inverse(a: &Named, s: &Seq) -> Result<Option<Seq>, AllocError>
 
 /// Makes a contexted patch. Its context is marked as its own normal order if `told` is true or a quick check finds it
 /// so.
-fn made(alloc: Global, context: Seq, patch: Named, told: bool) -> Result<Contexted, AllocError>
+fn make_contexted(
+    alloc: Global,
+    context: Seq,
+    patch: Named,
+    told: bool,
+) -> Result<Contexted, AllocError>
     requires { IsTrue told → Norm context context }
-    ensures { IfOk result (λ y. y ≡ behind context patch) }
+    ensures { IfOk result (λ y. y ≡ in_context context patch) }
 {
     let (own, all) = are_own_orders(context.items(), &patch);
-    Contexted::told(alloc, context, patch, (told || own, all))
+    Contexted::with_checks(alloc, context, patch, (told || own, all))
 }

@@ -1,11 +1,12 @@
 //! Conflicts between contexted patches.
 ghost use Rattle.std.specs.Prelude.{◌≡◌, ◌↔◌, IfOk, IsTrue};
 ghost use Rattle.camp_base.specs.Answers.{FindsPair};
-ghost use Rattle.camp_ctx.specs.Conflicts.{common_labels, has_label, Conflict, MergesBehindCommon};
+ghost use Rattle.camp_ctx.specs.Conflicts.{common_labels, has_label, Conflict, MergesCleanlyAfterCommon};
 ghost use Rattle.camp_ctx.specs.Contexts.{whole};
 
 use crate::fast::{
-    are_apart, are_elsewhere, clash, conflict_in_any_order, merge_apart, stand_aside,
+    are_apart, are_elsewhere, are_independent, conflict_by_first, conflict_in_any_order,
+    merge_apart,
 };
 use crate::{Contexted, join};
 use camp_prim::{Label, Named};
@@ -20,18 +21,18 @@ pub fn conflict(x: &Contexted, y: &Contexted) -> Result<bool, AllocError>
     if are_elsewhere(x, y) {
         return Ok(false);
     }
-    if clash(x, y)? {
+    if conflict_by_first(x, y)? {
         return Ok(true);
     }
     let second = whole(y)?;
-    if stand_aside(x, &second)? {
+    if are_independent(x, &second)? {
         return Ok(false);
     }
     let first = whole(x)?;
     if let Some(found) = conflict_in_any_order(x, y, &first, &second)? {
         return Ok(found);
     }
-    match merge_behind_common(x.allocator(), &first, &second)? {
+    match merge_after_common(x.allocator(), &first, &second)? {
         None => Ok(true),
         Some(_) => Ok(false),
     }
@@ -39,12 +40,8 @@ pub fn conflict(x: &Contexted, y: &Contexted) -> Result<bool, AllocError>
 
 /// Merges two lists of the same state after their common part: `Some((t', s'))`, where `t'` comes after `s`, and `s'`
 /// after `t`; `None` if what remains of them does not merge cleanly.
-pub fn merge_behind_common(
-    alloc: Global,
-    s: &Seq,
-    t: &Seq,
-) -> Result<Option<(Seq, Seq)>, AllocError>
-    ensures exact { IfOk result (FindsPair (MergesBehindCommon s.now t.now)) }
+pub fn merge_after_common(alloc: Global, s: &Seq, t: &Seq) -> Result<Option<(Seq, Seq)>, AllocError>
+    ensures exact { IfOk result (FindsPair (MergesCleanlyAfterCommon s.now t.now)) }
 {
     let common = common_labels(alloc, s.items(), t.items())?;
     let labels = common.as_slice();

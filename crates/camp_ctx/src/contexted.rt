@@ -33,11 +33,11 @@ impl Model for Contexted {
 
     ghost Value = { ContextedPatch };
 
-    ghost use Rattle.camp_ctx.specs.Inside.Looks.{IsLookedAt, seen};
+    ghost use Rattle.camp_ctx.specs.Inside.Looks.{ChecksAreTrue, seen};
 
     ghost view = { seen };
 
-    ghost invariant = { IsLookedAt };
+    ghost invariant = { ChecksAreTrue };
 }
 
 impl Contexted {
@@ -46,12 +46,12 @@ impl Contexted {
         ensures exact { IfOk result (λ x. x ≡ record { context = context; patch = patch }) }
     {
         let told = are_own_orders(context.items(), &patch);
-        Contexted::told(alloc, context, patch, told)
+        Contexted::with_checks(alloc, context, patch, told)
     }
 
     /// Makes `c:p` with the results of the quick checks: whether the context is its own normal order, and whether the
     /// whole is.
-    pub(crate) fn told(
+    pub(crate) fn with_checks(
         alloc: Global,
         context: Seq,
         patch: Named,

@@ -11,28 +11,30 @@
 //! shared. When a list is added, the context is copied only at the first element that may change it.
 //! - A context in normal order stays in normal order when a primitive has passed it, if there is headroom; it is not
 //! ordered again.
-//! - Whether the context, and the context with the patch, are their own normal orders is checked quickly once, when a
-//! contexted patch is made (`Contexted::context_is_ordered`, `whole_is_ordered`). Of a chain only the last element is
-//! checked, if the patch does not pass it. A context that was ordered and has headroom is its own normal order,
-//! whatever the quick check says.
-//! - A patch without a context whose inverse passes the whole of another contexted patch unchanged does not conflict
-//! with it: the two merge with nothing in common. No list is made.
-//! - Contexted patches that have no file and no absolute label in common do not conflict: their normal orders have none
-//! in common either, and merge unchanged.
-//! - Two contexted patches without a common label that are their own normal orders, or have headroom, are merged as they
-//! are, without ordering: with headroom, whether lists merge does not depend on their orders.
-//! So neither is ordered; and if the inverse of the first primitive of one does not commute with the first of the
-//! other, no list is made.
+//! - When a contexted patch is made, a quick check notes whether the context, and the context followed by the patch,
+//! are in normal order (`Contexted::context_is_ordered`, `whole_is_ordered`). If the context is a chain, it is enough
+//! to check that the patch does not commute past its last element. A context that was put in normal order and has
+//! headroom is its own normal order, even if the quick check does not find it so.
+//! - A patch without a context does not conflict with another contexted patch if its inverse passes the context and the
+//! patch of that one, and all stay unchanged: then the two have no common part, and merge. No list is made.
+//! - Contexted patches that have no file and no absolute label in common do not conflict: their normal orders have no
+//! label in common either, and merge unchanged.
+//! - Two contexted patches without a common label that are their own normal orders, or have headroom, are merged as
+//! they are, without ordering: with headroom, whether lists merge does not depend on the order of their elements. If
+//! the inverse of the first primitive of one does not commute with the first primitive of the other, they do not merge,
+//! and no list is made.
 //! - Two lists without a common label are merged as they are if each is its own normal order: splitting off the common
 //! part would change nothing. If their first primitives do not merge, the lists do not, and neither is copied.
-mod behind;
+mod after;
 mod conflicts;
 mod elsewhere;
 mod links;
 mod stays;
 
-pub use behind::conflict_behind;
-pub(crate) use conflicts::{are_apart, clash, conflict_in_any_order, merge_apart, stand_aside};
+pub use after::conflict_after_adding;
+pub(crate) use conflicts::{
+    are_apart, are_independent, conflict_by_first, conflict_in_any_order, merge_apart,
+};
 pub(crate) use elsewhere::are_elsewhere;
 pub(crate) use links::{becomes_context, linked};
 pub(crate) use stays::{changing, stays};

@@ -1,5 +1,5 @@
 //! The laws of contexted patches, as functions whose contracts state them.
-ghost use Rattle.camp_ctx.specs.Laws.{AddingGives, AddingIsUnique, AreSymmetric, EmptyChangesNothing, KeepValid};
+ghost use Rattle.camp_ctx.specs.Laws.{AddingHasResult, AddingIsUnique, AreSymmetric, EmptyChangesNothing, KeepValid};
 ghost use Rattle.camp_ctx.specs.Room.{AddsInAnyOrder, ReachGivesRoomToAdd};
 
 /// Adding, commuting past, and merging after a common part have at most one result.
@@ -9,9 +9,9 @@ pub fn results_in_context_are_determined()
 {}
 
 /// Adding always has a result.
-#[tactic(auto, using(crate::proofs::SetChanges::adding_gives))]
-pub fn adding_always_gives()
-    ensures law { AddingGives }
+#[tactic(auto, using(crate::proofs::SetChanges::adding_has_result))]
+pub fn adding_has_result()
+    ensures law { AddingHasResult }
 {}
 
 /// Adding and commuting past keep validity: what is valid after a primitive or a list becomes something that
@@ -32,8 +32,8 @@ pub fn conflict_is_symmetric()
     ensures law { AreSymmetric }
 {}
 
-/// If a list, a context and its patch are in range, and so is the reach of all of them, the list has headroom
-/// to be added.
+/// If the primitives of a list, a context and a patch are in range, and the reach of all of them together is at most
+/// 2^30, the list has headroom to be added.
 #[tactic(auto, using(crate::proofs::RoomToAdd::reach_gives_room_to_add))]
 pub fn reach_gives_room_to_add()
     ensures law { ReachGivesRoomToAdd }

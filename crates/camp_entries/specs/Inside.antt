@@ -49,7 +49,7 @@ NoneHave body = (noted : List (WithNote Call)) → length noted ≤ 256 → ¬ (
 abbrev pub AreOnlyOf : List ℕ → List (WithNote Call) → Type 0
 AreOnlyOf body found = AllByRecursion IsNoted found × ((noted : List (WithNote Call)) → length noted ≤ 256 → HaveText body noted → found ≡ noted)
 
--- the same, given the calls without their notes
+-- no list of calls with notes has this text if it consists of these calls
 abbrev pub NoneHaveWith : List ℕ → List Call → Type 0
 NoneHaveWith body calls = (noted : List (WithNote Call)) → calls_in noted ≡ calls → ¬ (HaveText body noted)
 

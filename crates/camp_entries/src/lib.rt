@@ -8,8 +8,6 @@ mod faults;
 mod heads;
 mod notes;
 mod seats;
-#[cfg(test)]
-mod tests;
 mod titles;
 
 pub use calls::{noted_text, parse_noted_call};

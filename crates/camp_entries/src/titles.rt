@@ -10,13 +10,13 @@ use camp_repo::Limits;
 use itoa::Buffer;
 use std::alloc::{AllocError, Global};
 
-/// The title of a log without limits.
+/// The title of a log whose repository has the default limits.
 const PLAIN_TITLE: &[u8] = b"camp log 1\n";
 
-/// The bytes of a title before the first limit.
+/// The number of bytes of a title before the first limit.
 const BEFORE_CATCHES: usize = 19;
 
-/// The bytes of a title between its limits.
+/// The number of bytes of a title between its two limits.
 const BETWEEN_LIMITS: usize = 10;
 
 /// Renders the title of a log, which names the limits of its repository.

@@ -3,7 +3,7 @@ use Rattle.std.specs.Prelude.{◌≡◌, ℕ, List, Option, None, Some, Result, 
 use Rattle.std.specs.Io.KnownBytes.{Appends, Keeps}
 use Rattle.camp_catch.specs.declared.catches.Catch.{Catch}
 use Rattle.camp_repo.specs.States.{Contents, catches_of}
-use Rattle.camp_script.specs.Writing.{AppendsBeginning}
+use Rattle.camp_script.specs.Writing.{AppendsProperPrefix}
 use Rattle.camp_git.specs.Exports.{IsExport, IsUnheld}
 use Rattle.camp_git.specs.declared.faults.Unexported.{Unexported}
 use Rattle.camp_git.specs.declared.faults.Unexported.TheVariants.{NoBranch, Unheld, Memory, Write}
@@ -25,4 +25,4 @@ Exports state name old (Err (Unheld patch path)) new =
 Exports state name old (Err Memory) new =
     (branch : List Catch) × (catches_of state.branches name ≡ Some branch) × Keeps old new
 Exports state name old (Err (Write error)) new =
-    (text : List ℕ) × ExportOf state name text × AppendsBeginning old new text
+    (text : List ℕ) × ExportOf state name text × AppendsProperPrefix old new text

@@ -76,7 +76,7 @@ IsFirstBad branch count (patch ∷ patches) name path =
     ((patch.name ≡ name) × IsBad (take (count + patch.changes) branch) path)
     ⊎ (FitsGit (take (count + patch.changes) branch) × IsFirstBad branch (count + patch.changes) patches name path)
 
--- the same for all patches of a branch
+-- the first patch of a branch after which git can't store the tree, and the path of the file that is the reason
 pub record IsUnheld (branch : List Catch) (name path : List ℕ) : Type 0 where
   pub patches : List Patch
   pub has : HasPatches branch patches

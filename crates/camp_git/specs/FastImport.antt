@@ -98,8 +98,8 @@ no_files path = None
 abbrev pub is_inside : List ℕ → List ℕ → Bool
 is_inside folder path = starts_with nat_eq path (folder ++ slash ∷ [])
 
--- the tree after a change. A file replaces the folder at its path, and each file that is a folder of its path; a
--- deleted folder goes with all that is in it
+-- the tree after a change. A file that is set replaces the folder at its path, and each file whose path is a folder of
+-- its path; a deleted path goes with all files inside it
 abbrev pub git_tree_after : GitTree → FileChange → GitTree
 git_tree_after tree (FileModify path content) other =
     if bytes_eq other path then Some content
@@ -166,7 +166,7 @@ abbrev pub IsFromKnown : List Kept → Option ℕ → Type 0
 IsFromKnown kept None = Unit {0}
 IsFromKnown kept (Some mark) = is_some (commit_at_mark kept mark) ≡ true
 
--- the same for all commits, one after the other
+-- the parents that commits name, one after the other, are earlier commits
 abbrev pub AreFromKnown : List Kept → List Commit → Type 0
 AreFromKnown kept [] = Unit {0}
 AreFromKnown kept (commit ∷ commits) =

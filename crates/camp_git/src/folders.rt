@@ -37,7 +37,8 @@ pub(crate) fn first_unheld(
     Ok(None)
 }
 
-/// Returns the same for one path, whose file may be new.
+/// Returns the file at a path, if that file is new and git can't store it, or another one that git can't store because
+/// of it.
 fn unheld_if_new(
     alloc: Global,
     path: &Path,

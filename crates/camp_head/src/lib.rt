@@ -12,8 +12,8 @@ pub type Head = camp_history::Head<State>;
 /// Where one caller asks a head.
 pub type Seat = camp_history::Seat<State>;
 
-/// A call stored in a head, to be asked.
+/// A call stored in a head, which can be executed at any of its seats.
 pub type Kept = camp_history::Kept<State>;
 
-/// A head, a seat of it and a gate, as a desk.
+/// Executes calls at a seat of a head, as a desk; its gate is notified of each call.
 pub type HeadDesk<'r, 'h, 's, 'g, R, G> = camp_history::HeadDesk<'r, 'h, 's, 'g, R, State, G>;

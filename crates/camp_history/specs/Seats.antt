@@ -6,8 +6,8 @@ use Rattle.camp_row.specs.PassState.{RowId, PassState}
 use Rattle.camp_row.specs.declared.entries.Entry.{Entry}
 use Rattle.camp_history.specs.declared.marks.Mark.{Mark}
 
--- the identity of a head: its row, its store of calls, its slots for snapshots, the number of compare-exchanges that a
--- call may lose, and the initial state of its history
+-- what stays the same of a head: its row, its store of calls, its slots for snapshots, the number of compare-exchanges
+-- that a call may lose, and the initial state of its history
 pub record HeadId (State : Type 0) : Type 0 where
   pub row : RowId
   pub store : Shelves
@@ -15,7 +15,7 @@ pub record HeadId (State : Type 0) : Type 0 where
   pub tries : ℕ
   pub first : State
 
--- a snapshot in a slot: the slot's index, the numbers that identify the slots, and the marks of the snapshot
+-- a snapshot in a slot: the slot's index and unique number, and the marks of the snapshot
 pub record Based (Call : Type 0) : Type 0 where
   pub slot : ℕ
   pub id : ℕ
@@ -26,7 +26,7 @@ abbrev pub IsBaseAt : {Call : Type 0} → List ℕ → Based Call → Type 0
 IsBaseAt ids base = base.id ≡ slice_index_or ids base.slot 0
 
 -- a seat: the initial state of its history, what its pass knows of the row, a mark for each call that it has seen, in
--- order, and the snapshots that it noted, with whose calls its own begin
+-- order, and the snapshots that it noted; its calls begin with those of each of them
 pub record SeatState (State Call : Type 0) : Type 0 where
   pub first : State
   pub known : PassState
@@ -45,7 +45,7 @@ entry_of mark = record { seat = mark.seat; index = mark.call.index }
 abbrev pub entry_and_call : {Call : Type 0} → Mark Call → Entry × Call
 entry_and_call mark = (entry_of mark, mark.call.value)
 
--- the most calls in a reference counted list of marks; no history of a head has more
+-- the most marks in a reference counted list; no history of a head has more calls
 abbrev pub most_listed : ℕ
 most_listed = 4_194_304
 

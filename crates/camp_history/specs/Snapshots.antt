@@ -21,7 +21,7 @@ IsIn ids token = token.row ≡ slice_index_or ids token.bucket 0
 abbrev pub ids_of : List Named → List ℕ
 ids_of slots = map (λ slot. slot.id) slots
 
--- a snapshot in a slot: the slot and its number, and the marks of the snapshot
+-- a snapshot in a slot, as contracts see it
 abbrev pub based : {State Call Reply : Type 0} → Base State Call Reply → Based Call
 based base = record { slot = base.slot; id = base.snapshot.of; marks = base.snapshot.value }
 
@@ -29,7 +29,7 @@ based base = record { slot = base.slot; id = base.snapshot.of; marks = base.snap
 abbrev pub bases_in : {State Call Reply : Type 0} → List (Base State Call Reply) → List (Based Call)
 bases_in bases = map based bases
 
--- a list of marks begins with marks of the same entries and calls as another list has
+-- a list of marks begins with the entries and calls of another list of marks
 abbrev pub IsMarkPrefix : {Call : Type 0} → List (Mark Call) → List (Mark Call) → Type 0
 IsMarkPrefix beginning whole = IsBeginning (map entry_and_call beginning) (map entry_and_call whole)
 
@@ -53,7 +53,7 @@ pub record HaveCommon {Call : Type 0} (seat snapshot : List (Mark Call)) (count 
   pub in_seat : count ≤ length seat
   pub in_snapshot : count ≤ length snapshot
 
--- the marks of a snapshot after as many as a seat has
+-- the marks of a snapshot without its first ones, as many as the seat has marks
 abbrev pub news : {State Call : Type 0} → SeatState State Call → List (Mark Call) → List (Mark Call)
 news seat snapshot = drop (length seat.marks) snapshot
 
@@ -71,6 +71,6 @@ pub record Installs {State Call : Type 0} (old : SeatState State Call) (snapshot
   pub bases : new.bases ≡ old.bases
   pub known : new.known ≡ record old.known { seen = old.known.seen ++ map entry_of (news old snapshot) }
 
--- the marks of all that a seat has seen, and one more for a call of its own
+-- the marks of all calls that a seat has seen, followed by one for a further call of the seat
 abbrev pub made_of : {State Call : Type 0} → SeatState State Call → Where Call → List (Mark Call)
 made_of seat call = seat.marks ++ record { seat = seat.known.number; call = call } ∷ []

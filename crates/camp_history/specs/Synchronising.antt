@@ -5,8 +5,8 @@ use Rattle.camp_object.specs.declared.faults.Fault.{Fault}
 use Rattle.camp_object.specs.declared.faults.Fault.TheVariants.{Memory}
 use Rattle.camp_history.specs.Seats.{SeatState, history_of}
 
--- Of what the two seats had seen, one is a prefix of the other. b is unchanged. a sees further calls, but none of its
--- own. After Ok, a has seen all that b has seen, and no other call of b.
+-- Before, the calls that one of the two seats had seen were a prefix of those that the other had seen. b is unchanged.
+-- a sees further calls, but none of its own. After Ok, a has seen all that b has seen, and no other call of b.
 pub record Synchronises {State Call : Type 0} (a b a' b' : SeatState State Call) (answer : Result (Unit {0}) Fault) : Type 0 where
   pub a_number : a'.known.number ≡ a.known.number
   pub a_grows : IsBeginning (history_of a) (history_of a')

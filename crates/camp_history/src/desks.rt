@@ -11,7 +11,7 @@ use crate::seats::Seat;
 use camp_object::{Desk, Fault, Object};
 use std::sync::Wait;
 
-/// A head, a seat of it and a gate, as a desk. The gate is notified of each call, by its index from 0.
+/// Executes calls at a seat of a head, as a desk. The gate is notified of each call, by its index from 0.
 #[derive(Drop)]
 pub struct HeadDesk<'r, 'h, 's, 'g, R: Wait, State: Object, G: Gate> {
     rt: &'r R,

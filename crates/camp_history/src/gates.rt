@@ -1,6 +1,6 @@
 //! The gate: a hook at the steps of calls.
-/// Is notified of the steps of calls, and may wait at each of them; clients that take turns do that. It changes no
-/// reply. That it is notified of each step, and with which numbers, is only tested.
+/// Is notified of the steps of calls, and may wait at each of them, for example until it is the client's turn. It
+/// changes no reply. That it is notified of each step, and with which numbers, is only tested.
 pub trait Gate {
     /// Called before a call of a seat, with the index of the call in its section, from 0.
     fn before(&self, seat: u32, call: u32);

@@ -14,10 +14,10 @@ use camp_row::{Entry, Row, Trail};
 use camp_share::Share as _;
 use std::alloc::AllocError;
 
-/// The most snapshots that a seat notes.
+/// The most snapshots that a seat remembers having made or installed.
 const MOST_NOTED: usize = 16;
 
-/// Drops the oldest snapshot that a seat noted if it has noted the most that it may.
+/// Drops the oldest noted snapshot if there are `MOST_NOTED` of them.
 fn make_room<State: Object>(bases: &mut Vec<Base<State>>)
     ensures { (gone : ℕ) × (bases.new.items ≡ drop gone bases.old.items) }
 {
@@ -165,8 +165,8 @@ impl<State: Object> Head<State> {
         false
     }
 
-    /// Returns the number of calls of a snapshot that a seat noted, which are the first ones of the seat. `None` if it
-    /// did not note it.
+    /// Returns the number of calls of a snapshot if the seat noted it; these are then the first calls that the seat has
+    /// seen. `None` if it did not note it.
     pub(crate) fn noted_len(&self, seat: &Seat<State>, base: &Base<State>) -> Option<usize>
         requires seat { IsSeatOf self.now seat.now }
         requires base { IsBaseAt self.now.slots (based base.now) }
@@ -194,8 +194,8 @@ impl<State: Object> Head<State> {
         Some(parent_link)
     }
 
-    /// Returns a number of first calls that a seat and a snapshot have in common, without comparing calls: the length
-    /// of the snapshot's nearest ancestor that the seat noted.
+    /// Returns a number of first calls in which a seat and a snapshot agree: the length of the snapshot's nearest
+    /// ancestor that the seat noted. Compares no calls.
     fn common_len(&self, seat: &Seat<State>, link: &ParentLink<State>) -> usize
         requires seat { IsSeatOf self.now seat.now }
         requires link { IsMadeFrom self.now.slots link.now }
@@ -214,7 +214,8 @@ impl<State: Object> Head<State> {
         0
     }
 
-    /// True if a snapshot begins with the calls that a seat has seen; `from` first calls are known to be the same.
+    /// True if a snapshot begins with the calls that a seat has seen. The first `from` calls are known to agree and are
+    /// not compared.
     fn begins_with_seen(
         &self,
         seat: &Seat<State>,
@@ -239,7 +240,7 @@ impl<State: Object> Head<State> {
         true
     }
 
-    /// True if those calls of a snapshot that a seat has not seen come next on the trail.
+    /// True if the calls of a snapshot that the seat has not seen are the next ones on the trail.
     fn follows_trail(
         &self,
         seat: &mut Seat<State>,
@@ -267,8 +268,8 @@ impl<State: Object> Head<State> {
         true
     }
 
-    /// True if a snapshot begins with what a seat has seen and continues along the trail; `from` first calls are known
-    /// to be the same.
+    /// True only if the snapshot starts with the calls that the seat has seen and then follows the trail. The first
+    /// `from` calls are known to agree and are not compared.
     fn continues_seat(
         &self,
         seat: &mut Seat<State>,
@@ -286,7 +287,7 @@ impl<State: Object> Head<State> {
         self.begins_with_seen(seat, snapshot, from) && self.follows_trail(seat, trail, snapshot)
     }
 
-    /// Notes a snapshot with which a seat's calls begin. Only the most recent notes are kept.
+    /// Notes that a seat's calls begin with those of a snapshot. Only the most recent notes are kept.
     pub(crate) fn note(&self, seat: &mut Seat<State>, base: Base<State>)
         requires seat { IsSeatOf self.now seat.old }
         requires base { IsBaseAt self.now.slots (based base) }
@@ -299,7 +300,7 @@ impl<State: Object> Head<State> {
         let _noted = seat.bases.push(base);
     }
 
-    /// Returns the snapshot of a slot and its length, if it has more than `seen` and at most `reach` calls.
+    /// Returns the snapshot in a slot and its length, if it has more than `seen` and at most `reach` calls.
     fn found_at(&self, number: usize, seen: u64, reach: u64) -> Option<(&ParentLink<State>, u64)>
         ensures { IfSome result (λ found. IsWithinReach self.now.slots seen reach found.0.now found.1) }
     {
@@ -433,7 +434,7 @@ impl<State: Object> Head<State> {
         Ok(())
     }
 
-    /// Installs all that another seat has seen and decided at a seat that has seen less.
+    /// Installs at a seat all that another seat, which has seen more, has seen and decided.
     pub(crate) fn install_from(
         &self,
         seat: &mut Seat<State>,

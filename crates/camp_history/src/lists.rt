@@ -6,7 +6,7 @@ use camp_share::{Iter, Share, SharedList};
 use std::alloc::AllocError;
 use std::marker::Model;
 
-/// The marks that are left of an iteration. Contracts see them as a list.
+/// An iterator over marks: those not returned yet. Contracts see it as their list.
 #[derive(Drop)]
 pub(crate) struct MarksLeft<'a, Call> {
     earlier: Iter<'a, Mark<Call>>,

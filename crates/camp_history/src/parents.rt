@@ -1,4 +1,4 @@
-//! The rules of slots: what holds of a snapshot and its parent, whichever thread reads them.
+//! The invariant of the slots for parents: what holds of a snapshot and its parent, whichever thread reads them.
 ghost use Rattle.std.specs.Prelude.{All};
 ghost use Rattle.camp_history.specs.Snapshots.{ids_of, IsIn, IsMadeFrom};
 
@@ -11,7 +11,7 @@ impl<State: Object> SlotRule<HeadSnapshot<State>> for OfStore {
     ghost holds = { λ tag snapshot. All (λ mark. IsIn tag mark.call) snapshot };
 }
 
-/// The rule of the slots of parents: a parent is a snapshot in a slot of the same head.
+/// The invariant of the slots for parents: a parent is a snapshot in a slot of the same head.
 pub struct OfSlots;
 
 impl<State: Object> SlotRule<ParentLink<State>> for OfSlots {

@@ -19,8 +19,8 @@ use std::alloc::AllocError;
 /// whose position it makes a snapshot. A snapshot copies the marks outside the list, so this number is small.
 const COMPACT_AT_SNAPSHOT: usize = 40;
 /// The number of marks outside the reference counted list at which a seat moves them into the list before any other
-/// call. Moving takes longer the more calls there are. The number is the most that a snapshot and 64 calls after it
-/// have, so that a seat that installs a snapshot every 64 calls never moves any.
+/// call. Moving takes longer the more calls there are. A snapshot has at most 40 marks outside the list; with 64 calls
+/// after it these are 104, so a seat that installs a snapshot every 64 calls never moves any.
 const COMPACT_BETWEEN: usize = 104;
 
 impl<State: Object> HeadSnapshot<State> {
@@ -117,8 +117,8 @@ impl<State: Object> Head<State> {
         Some(seat.bases.last()?.again())
     }
 
-    /// Writes a snapshot of all that a seat has seen to a slot, and its parent to another, unless the slot has a
-    /// snapshot already.
+    /// Writes a snapshot of all that a seat has seen to a slot, and the snapshot's parent to the slot for parents,
+    /// unless the slot has a snapshot already.
     fn store_at(
         &self,
         number: usize,
@@ -141,7 +141,7 @@ impl<State: Object> Head<State> {
         Some(base)
     }
 
-    /// Records the parent of the snapshot of a slot: the one that its maker noted last.
+    /// Writes the parent of a slot's snapshot: the snapshot that the seat which made it had noted last.
     fn record_parent(&self, base: &Base<State>, seat: &Seat<State>)
         requires seat { IsSeatOf self.now seat.now }
         requires base { IsBaseAt self.now.slots (based base.now) }
@@ -171,8 +171,8 @@ impl<State: Object> Head<State> {
         Ok(())
     }
 
-    /// Returns the number of marks outside the reference counted list at which a seat moves them into the list before
-    /// its next call.
+    /// Returns the number of marks outside the reference counted list from which on a seat moves them into the list
+    /// before its next call.
     pub(crate) fn compact_limit(&self, seat: &Seat<State>) -> usize {
         if slot_of(seat.position().saturating_add(1), self.every).is_none() {
             return COMPACT_BETWEEN;
@@ -180,7 +180,7 @@ impl<State: Object> Head<State> {
         COMPACT_AT_SNAPSHOT
     }
 
-    /// Makes the snapshot for a call's position, if snapshots are kept there.
+    /// Makes the snapshot for a call's position, if snapshots are kept at it.
     pub(crate) fn snapshot_for(
         &self,
         seat: &Seat<State>,

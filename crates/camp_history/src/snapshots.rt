@@ -52,14 +52,14 @@ impl<State: Object> Base<State> {
     }
 }
 
-/// A snapshot in a slot, and its parent: the snapshot that its maker had made or installed before it.
+/// A snapshot in a slot, and its parent: the snapshot that the same seat had made or installed before it.
 #[derive(Drop)]
 pub struct ParentLink<State: Object> {
     pub(crate) snapshot: Base<State>,
     pub(crate) parent: Option<Base<State>>,
 }
 
-/// The rule of the slots of snapshots: the calls of a snapshot are in the store of the slot's head.
+/// The invariant of the slots for snapshots: the calls of a snapshot are in the store of the slot's head.
 pub struct OfStore;
 
 /// Stores are identified by the numbers of their buckets.

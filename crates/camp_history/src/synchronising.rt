@@ -46,7 +46,7 @@ impl<State: Object> Head<State> {
         self.see_chain(seat)
     }
 
-    /// Returns a number of calls that two seats have in common: the length of a snapshot that both noted.
+    /// Returns a number of first calls in which two seats agree: the length of a snapshot that both noted.
     pub(crate) fn common_len_of_seats(&self, a: &Seat<State>, b: &Seat<State>) -> usize
         requires seats { IsSeatOf self.now a.now × IsSeatOf self.now b.now }
         ensures { HaveCommon a.now.marks b.now.marks result }
@@ -59,9 +59,9 @@ impl<State: Object> Head<State> {
         0
     }
 
-    /// States for the prover that two seats that have found the same chain have the same calls, as far as both have
-    /// seen it. Without effect at run time: it calls `agrees`, whose clause says that two marks of the same index of
-    /// the store stand for the same call.
+    /// Gives the prover the fact that two seats that have found the same chain have the same calls, as far as both have
+    /// seen it. Has no effect at run time: it calls `agrees`, whose clause says that two marks of the same index of the
+    /// store stand for the same call.
     fn compare(&self, a: &Seat<State>, b: &Seat<State>)
         requires seats { IsSeatOf self.now a.now × IsSeatOf self.now b.now }
         requires chain { a.now.known.ahead ≡ b.now.known.ahead }

@@ -35,7 +35,7 @@ impl<State: Object> Seat<State> {
     ghost use Rattle.camp_history.specs.Seats.{history_of};
     ghost use Rattle.camp_history.specs.Inside.Steps.{seen_entries, with_mark, DecidesAt, Publishes, FindsMore};
 
-    /// States the invariant of every seat for callers' proofs. Does nothing at run time.
+    /// Gives callers' proofs the invariant of every seat. Does nothing at run time.
     pub(crate) fn show_invariant(&self)
         ensures entries_are { seen_entries self.now ≡ self.now.known.seen }
         ensures first { IsFirst State.object self.now.first }
@@ -56,7 +56,7 @@ impl<State: Object> Seat<State> {
         row.find_chain(&mut self.pass);
     }
 
-    /// Synchronises two seats: both have found the same chain, which begins with what either has seen.
+    /// Synchronises two seats: afterwards both have found the same chain, which begins with what each of them has seen.
     pub(crate) fn synchronise(&mut self, row: &Row, other: Seat<State>) -> Seat<State>
         requires { (self.old.known.row ≡ row.now) × (other.known.row ≡ row.now) }
         ensures self_first { self.new.first ≡ self.old.first }
@@ -97,8 +97,8 @@ impl<State: Object> Seat<State> {
         Shared::new(*self.tail.allocator(), longer)
     }
 
-    /// Compacts the seat: if `most` marks or more are outside the reference counted list, moves them into it, as far as
-    /// the list may grow.
+    /// Compacts the seat: if `most` marks or more are outside the reference counted list, moves them into it, up to the
+    /// list's greatest length.
     fn compact(&mut self, most: usize) -> Result<(), AllocError>
         ensures { self.new ≡ self.old }
     {
@@ -151,7 +151,7 @@ impl<State: Object> Seat<State> {
         Shared::new(*self.tail.allocator(), next)
     }
 
-    /// Marks the next entry of the chain as seen, whose call and next state are given.
+    /// Marks the next entry of the chain as seen, given its call and the state after it.
     fn step(
         &mut self,
         row: &Row,

@@ -144,7 +144,7 @@ fn prefix_of(alloc: Global, folder: &[u8]) -> Result<Vec<u8>, AllocError>
     Ok(prefix)
 }
 
-/// Removes the entry of git that is stored at a path of camp, if the entry's path has a prefix.
+/// Removes the git entry that a path of camp stores, if the entry's own path begins with `prefix`.
 fn remove_if_below(
     alloc: Global,
     changed: &ChangedTree,

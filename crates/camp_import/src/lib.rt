@@ -2,17 +2,17 @@
 #![tactic(auto)]
 
 mod commit_trees;
+mod commits;
 mod differences;
 mod edits;
 mod entry_changes;
 mod file_changes;
 mod parts;
-#[cfg(test)]
-mod tests;
 mod touched;
 mod tree_changes;
 
 pub use commit_trees::{ChangedTree, EntryFault, tree_after};
+pub use commits::{Commit, Tip};
 pub use differences::differing_paths;
 pub use edits::ChangeFault;
 pub use entry_changes::EntryChange;

@@ -13,7 +13,7 @@ use std::alloc::{AllocError, Global};
 /// The most changes of a patch.
 const MAX_CHANGES: usize = 64;
 
-/// The number of bytes at the start of a patch's name with which the name of a part begins.
+/// The number of first bytes of a patch's name that the names of its parts begin with.
 const PREFIX_LENGTH: usize = 35;
 
 /// Divides changes into parts that a patch may have: each has the next 64 changes, the last one all that are left.

@@ -2,20 +2,24 @@
 use Rattle.std.proofs.Common.{◌≡◌, ◌≢◌, ℕ, Bool, true, false, true≢false, List, [], ◌∷◌, ◌++◌, Option, None, Some, Result, Ok, Err, bytes_eq, cond, is_some, length, nat_le, refl, sym, ap, ◌∙◌, subst}
 use Rattle.std.proofs.lemmas.Bool.{cond_both, false_from_ne_true}
 use Rattle.std.proofs.lemmas.Option.{none-some}
-use Rattle.std.specs.Option.{option_and_then}
+use Rattle.std.specs.Option.{option_and_then, option_map_or}
 use Rattle.camp_branch.proofs.Names.{name_itself, same_name}
 use Rattle.camp_call.specs.declared.calls.Call.{Call}
 use Rattle.camp_call.specs.declared.calls.Call.TheVariants as call
 use Rattle.camp_call.specs.declared.replies.Refusal.{Refusal}
-use Rattle.camp_call.specs.declared.replies.Refusal.TheVariants.{BranchExists, TooLarge}
+use Rattle.camp_call.specs.declared.replies.Refusal.TheVariants.{BranchExists, NoBranch, TooLarge}
+use Rattle.camp_call.specs.declared.replies.Reply.TheVariants as reply
 use Rattle.camp_catch.specs.declared.catches.Catch.{Catch}
 use Rattle.camp_object.proofs.SameBooks.{earlier_same, earlier_through}
 use Rattle.camp_object.specs.Books.{replay_book}
+use Rattle.camp_object.specs.declared.objects.Decided.TheVariants.{Answer}
 use Rattle.camp_repo.proofs.AcceptedSteps.{has_branch, next_is, passes}
 use Rattle.camp_repo.specs.Laws.{ChangesOne}
 use Rattle.camp_repo.specs.Objects.{repository}
 use Rattle.camp_repo.specs.States.{Branches, Contents, catches_of}
-use Rattle.camp_importer.specs.Calling.{AcceptsNext, AnswersCall, ContinuesOn, FailsOn, IsReason, OrFails, RefusesCall, RepositoryBook, branch_in}
+use Rattle.camp_repo.specs.Steps.{Decision, refused}
+use Rattle.camp_importer.specs.Parts.{IsThere}
+use Rattle.camp_importer.specs.Calling.{AcceptsNext, AnswersCall, ContinuesOn, FailsOn, ComesWithoutCall, IsReason, OrFails, RefusesCall, RepositoryBook, branch_in}
 use Rattle.camp_importer.specs.Steps.{CopiesFirst, StartsFrom}
 use Rattle.camp_importer.specs.declared.faults.Reason.{Reason}
 use Rattle.camp_importer.specs.declared.faults.Reason.TheVariants as reason
@@ -45,10 +49,15 @@ fails_through Makes branch one two why three first fails =
 -- a reason of one kind of calls is one of another kind that has these
 reason_of : (Makes More : Call → Refusal → Type 0) (why : Reason) (book : RepositoryBook) → ((call : Call) (refusal : Refusal) → Makes call refusal → More call refusal) → IsReason Makes why book → IsReason More why book
 reason_of Makes More (reason.Refused refusal) book is reasoned = (reasoned.0, is reasoned.0 refusal reasoned.1, reasoned.2)
-reason_of Makes More reason.Memory book is reasoned = tt
+reason_of Makes More other book is reasoned = reasoned
 
 pub fails_of : (Makes More : Call → Refusal → Type 0) (branch : List ℕ) (old : RepositoryBook) (why : Reason) (new : RepositoryBook) → ((call : Call) (refusal : Refusal) → Makes call refusal → More call refusal) → FailsOn Makes branch old why new → FailsOn More branch old why new
 fails_of Makes More branch old why new is fails = record { only = fails.only; reason = reason_of Makes More why new is fails.reason }
+
+-- a reason that comes without a call
+pub plainly_fails : (Makes : Call → Refusal → Type 0) (branch : List ℕ) (book : RepositoryBook) (why : Reason) → ComesWithoutCall why → FailsOn Makes branch book why book
+plainly_fails Makes branch book (reason.Refused refusal) is = absurd is
+plainly_fails Makes branch book other is = record { only = same_continues branch book book refl; reason = is }
 
 -- a call that changes one branch
 pub one_changes : (branch : List ℕ) (call : Call) (old new : RepositoryBook) (accepts : AcceptsNext call old new) → ChangesOne branch accepts.before accepts.after → ContinuesOn branch old new
@@ -64,6 +73,7 @@ call_fails Makes branch call old new (reason.Refused refusal) makes answers = re
   reason = (call, makes refusal refl, subst (λ (book : RepositoryBook). RefusesCall call refusal book) (sym answers.0) answers.1);
 }
 call_fails Makes branch call old new reason.Memory makes answers = record { only = same_continues branch old new answers; reason = tt }
+call_fails Makes branch call old new other makes answers = absurd answers
 
 other_name : (name other : List ℕ) → other ≢ name → bytes_eq other name ≡ false
 other_name name other differs = false_from_ne_true (bytes_eq other name) (λ same. differs (same_name other name same))
@@ -86,6 +96,14 @@ is_none : {X : Type 0} (o : Option X) → is_some o ≡ false → o ≡ None
 is_none None e = refl
 is_none (Some x) e = cc
 
+-- the refusal of a decision, if it is one
+abbrev refusal_in : Refusal → Decision → Refusal
+refusal_in default (Answer (reply.Refused refusal)) = refusal
+refusal_in default other = default
+
+pub same_refusal : (one other : Refusal) → refused one ≡ refused other → one ≡ other
+same_refusal one other e = ap (refusal_in one) e
+
 -- a copy of a branch
 pub starts : (first branch : List ℕ) (old new : RepositoryBook) → AcceptsNext (call.Branch branch first) old new → StartsFrom first branch old new
 starts first branch old new accepts =
@@ -98,14 +116,35 @@ starts first branch old new accepts =
         earlier = accepts.earlier;
         others = λ other differs. in_state new accepts.after other accepts.now ∙ ap (λ (s : Contents). catches_of s.branches other) (sym same) ∙ grown_other accepts.before.branches branch other there.0 differs ∙ sym (in_state old accepts.before other accepts.was);
       };
-      same = in_state new accepts.after branch accepts.now ∙ ap (λ (s : Contents). catches_of s.branches branch) (sym same) ∙ grown_itself accepts.before.branches branch there.0 (is_none _ fresh.0) ∙ sym there.1 ∙ sym (in_state old accepts.before first accepts.was);
+      catches = there.0;
+      was = in_state old accepts.before first accepts.was ∙ there.1;
+      becomes = in_state new accepts.after branch accepts.now ∙ ap (λ (s : Contents). catches_of s.branches branch) (sym same) ∙ grown_itself accepts.before.branches branch there.0 (is_none _ fresh.0);
     }
 
-pub starts_or : (first branch : List ℕ) (old new : RepositoryBook) (result : Result (Unit {0}) Reason) → first ≢ branch → AnswersCall (call.Branch branch first) old result new → OrFails (StartsFrom first branch) (CopiesFirst first branch) branch old result new
-starts_or first branch old new (Ok done) differs answers = starts first branch old new answers
-starts_or first branch old new (Err why) differs answers =
-    call_fails (CopiesFirst first branch) branch (call.Branch branch first) old new why (λ refusal is. (refl, differs)) answers
+not_there : (name : List ℕ) (goes_on : List Catch → Decision) (o : Option (List Catch)) (got : Refusal) → o ≡ None → option_map_or goes_on o (refused (NoBranch name)) ≡ refused got → got ≡ NoBranch name
+not_there name goes_on None got none e = sym (same_refusal (NoBranch name) got e)
+not_there name goes_on (Some catches) got none e = absurd (none-some catches (sym none))
+
+-- a branch that is missing can't be copied
+missing_refuses : (first branch : List ℕ) (book : RepositoryBook) (got : Refusal) → branch_in book first ≡ None → RefusesCall (call.Branch branch first) got book → got ≡ NoBranch first
+missing_refuses first branch book got none refuses =
+    let state = refuses.state in
+    not_there first _ (catches_of state.branches first) got (sym (in_state book state first refuses.replays) ∙ none) refuses.refuses
+
+pub starts_or : (first branch : List ℕ) (old new : RepositoryBook) (result : Result (Unit {0}) Reason) → (first ≡ branch → branch_in old first ≡ None) → AnswersCall (call.Branch branch first) old result new → OrFails (StartsFrom first branch) (CopiesFirst first branch) branch old result new
+starts_or first branch old new (Ok done) missing answers = starts first branch old new answers
+starts_or first branch old new (Err (reason.Refused got)) missing answers = record {
+  only = same_continues branch old new answers.0;
+  reason = (call.Branch branch first, (refl, λ same. missing_refuses first branch old got (missing same) answers.1), subst (λ (book : RepositoryBook). RefusesCall (call.Branch branch first) got book) (sym answers.0) answers.1);
+}
+starts_or first branch old new (Err reason.Memory) missing answers = record { only = same_continues branch old new answers; reason = tt }
+starts_or first branch old new (Err other) missing answers = absurd answers
 
 -- the branch of the first parent itself
-pub starts_there : (first branch : List ℕ) (book : RepositoryBook) → first ≡ branch → StartsFrom first branch book book
-starts_there first branch book is = record { only = same_continues branch book book refl; same = ap (branch_in book) (sym is) }
+pub starts_there : (first branch : List ℕ) (book : RepositoryBook) → first ≡ branch → IsThere book branch → StartsFrom first branch book book
+starts_there first branch book is there = record {
+  only = same_continues branch book book refl;
+  catches = there.0;
+  was = ap (branch_in book) is ∙ there.1;
+  becomes = there.1;
+}

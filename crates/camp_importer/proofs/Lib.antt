@@ -1,4 +1,11 @@
 pub mod BranchLemmas
 pub mod CallLemmas
+pub mod CommitLemmas
+pub mod CopyLemmas
+pub mod HistoryLemmas
+pub mod LawLemmas
+pub mod MarkLemmas
+pub mod MomentLemmas
+pub mod PartLemmas
 pub mod PullLemmas
 pub mod RecordLemmas

@@ -17,7 +17,7 @@ use Rattle.camp_importer.specs.Steps.{RecordsBy, RecordsPatch}
 use Rattle.camp_importer.specs.declared.faults.Reason.{Reason}
 
 -- a patch of at least one change has its name
-recorded_has : (name : List ℕ) (changes : List Primitive) → 0 < length changes → has_patch (recorded name 1 changes) name ≡ true
+pub recorded_has : (name : List ℕ) (changes : List Primitive) → 0 < length changes → has_patch (recorded name 1 changes) name ≡ true
 recorded_has name [] some = absurd (omega (arith, some))
 recorded_has name (change ∷ changes) some = or_left (bytes_eq name name) _ (name_itself name)
 

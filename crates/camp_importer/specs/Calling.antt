@@ -1,5 +1,5 @@
 -- What a call does to the branches of a book, and why it is not accepted.
-use Rattle.std.specs.Prelude.{◌≡◌, ◌≢◌, ℕ, List, Option, Some, option_and_then, Result, Ok, Err}
+use Rattle.std.specs.Prelude.{◌≡◌, ◌≢◌, ℕ, Bool, true, false, List, Option, Some, option_and_then, Result, Ok, Err}
 use Rattle.camp_call.specs.declared.calls.Call.{Call}
 use Rattle.camp_call.specs.declared.replies.Refusal.{Refusal}
 use Rattle.camp_call.specs.declared.replies.Refusal.TheVariants as refusal
@@ -13,7 +13,7 @@ use Rattle.camp_repo.specs.Objects.{repository}
 use Rattle.camp_repo.specs.States.{Contents, catches_of}
 use Rattle.camp_repo.specs.Steps.{step}
 use Rattle.camp_importer.specs.declared.faults.Reason.{Reason}
-use Rattle.camp_importer.specs.declared.faults.Reason.TheVariants.{Refused, Memory}
+use Rattle.camp_importer.specs.declared.faults.Reason.TheVariants.{Refused, TooManyChanges, Memory}
 
 -- a book of calls of a repository
 abbrev pub RepositoryBook : Type 0
@@ -49,33 +49,60 @@ abbrev pub AnswersCall : Call → RepositoryBook → Result (Unit {0}) Reason �
 AnswersCall call old (Ok done) new = AcceptsNext call old new
 AnswersCall call old (Err (Refused refusal)) new = (new ≡ old) × RefusesCall call refusal old
 AnswersCall call old (Err Memory) new = new ≡ old
+AnswersCall call old (Err other) new = ⊥
 
--- what comes of a call that writes: it is accepted or refused, and no other reply comes
+-- the outcome of a call that writes, given its reply: accepted or refused; it gets no other reply
 abbrev pub outcome_of : Reply → Result (Unit {0}) Reason
 outcome_of (reply.Done number) = Ok tt
 outcome_of (reply.Refused refusal) = Err (Refused refusal)
 outcome_of other = Err Memory
 
--- a reason holds after the calls of a book: a call is refused so, and it is one that the step makes; or memory runs out
+-- a reason that no call caused: there are too many changes, or memory runs out
+abbrev pub ComesWithoutCall : Reason → Type 0
+ComesWithoutCall TooManyChanges = Unit {0}
+ComesWithoutCall Memory = Unit {0}
+ComesWithoutCall other = ⊥
+
+-- Ok: a value with this property; else a reason that no call caused
+abbrev pub OrWithoutCall : {A : Type 0} → (A → Type 0) → Result A Reason → Type 0
+OrWithoutCall Is (Ok value) = Is value
+OrWithoutCall Is (Err why) = ComesWithoutCall why
+
+-- a reason is true after the calls of a book: the book refuses a call that the step makes, with this refusal; or no
+-- call caused the reason
 abbrev pub IsReason : (Call → Refusal → Type 0) → Reason → RepositoryBook → Type 0
 IsReason Makes (Refused refusal) book = (call : Call) × Makes call refusal × RefusesCall call refusal book
-IsReason Makes Memory book = Unit {0}
+IsReason Makes other book = ComesWithoutCall other
 
--- what was accepted before the fault stands, no other branch has changed, and the reason holds
+-- the calls accepted before the fault stay, no other branch has changed, and the reason is true
 pub record FailsOn (Makes : Call → Refusal → Type 0) (branch : List ℕ) (old : RepositoryBook) (why : Reason) (new : RepositoryBook)
     : Type 0 where
   pub only : ContinuesOn branch old new
   pub reason : IsReason Makes why new
 
--- Ok: the branch has changed so; else a fault of a call that the step makes
+-- Ok: the branch has changed as this relation says; else a fault of a call that the step makes
 abbrev pub OrFails :
     (RepositoryBook → RepositoryBook → Type 0) → (Call → Refusal → Type 0) → List ℕ → RepositoryBook
     → Result (Unit {0}) Reason → RepositoryBook → Type 0
 OrFails Changes Makes branch old (Ok done) new = Changes old new
 OrFails Changes Makes branch old (Err why) new = FailsOn Makes branch old why new
 
--- a pull that brings nothing counts as done
-abbrev pub unless_nothing : Result (Unit {0}) Reason → Result (Unit {0}) Reason
-unless_nothing (Ok done) = Ok done
-unless_nothing (Err (Refused refusal.NothingToDo)) = Ok tt
-unless_nothing (Err why) = Err why
+-- Ok: the branch has changed as the value says; else a fault of a call that the step makes
+abbrev pub GivesOrFails :
+    {A : Type 0} → (A → RepositoryBook → RepositoryBook → Type 0) → (Call → Refusal → Type 0) → List ℕ → RepositoryBook → Result A Reason → RepositoryBook → Type 0
+GivesOrFails Changes Makes branch old (Ok value) new = Changes value old new
+GivesOrFails Changes Makes branch old (Err why) new = FailsOn Makes branch old why new
+
+-- what a refusal says of a pull: it would bring nothing, which counts as done, or it is blocked; any other is a fault
+abbrev pub refused_outcome : Refusal → Result Bool Reason
+refused_outcome refusal.NothingToDo = Ok true
+refused_outcome (refusal.Depends patch on) = Ok false
+refused_outcome (refusal.Diverged name) = Ok false
+refused_outcome (refusal.NoMerge left right) = Ok false
+refused_outcome other = Err (Refused other)
+
+-- the outcome of a pull: true if it was accepted, or would bring nothing; false if it is blocked
+abbrev pub pull_outcome : Result (Unit {0}) Reason → Result Bool Reason
+pull_outcome (Ok done) = Ok true
+pull_outcome (Err (Refused refusal)) = refused_outcome refusal
+pull_outcome (Err why) = Err why

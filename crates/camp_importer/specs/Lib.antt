@@ -1,2 +1,9 @@
 pub mod Calling
+pub mod Commits
+pub mod Copies
+pub mod Histories
+pub mod Laws
+pub mod Moments
+pub mod Parents
+pub mod Parts
 pub mod Steps

@@ -10,7 +10,7 @@ use camp_repo::{Book, Call, Reply, State};
 pub(crate) fn execute(book: &mut Book<State>, seat: u32, call: &Call) -> Result<(), Reason>
     ensures { AnswersCall call.now book.old result book.new }
 {
-    // Its clauses say that the state is lawful.
+    // Calling `count` tells the prover, by its clauses, that the state is lawful.
     let _count = book.state().count();
     match book.ask(seat, call) {
         Ok(reply) => outcome_of(&reply),
@@ -18,7 +18,8 @@ pub(crate) fn execute(book: &mut Book<State>, seat: u32, call: &Call) -> Result<
     }
 }
 
-/// Returns what comes of a call that writes. Only a question has another reply.
+/// Returns the outcome of a call that writes, given its reply: accepted or refused. Only questions have the other
+/// replies.
 fn outcome_of(reply: &Reply) -> Result<(), Reason>
     ensures { result ≡ outcome_of reply.now }
 {

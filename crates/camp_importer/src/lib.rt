@@ -1,13 +1,29 @@
-//! The steps that bring a commit of git to a branch, as calls of a repository.
+//! Commits of git as calls of a repository.
 #![tactic(auto)]
 
+mod copying;
 mod executing;
 mod faults;
+mod histories;
+mod importing;
 mod joining;
+mod laws;
+mod lines;
+mod moments;
+mod parents;
+mod part_records;
+mod places;
+mod planning;
 mod pulling;
 mod recording;
+mod records;
 mod starting;
+mod trees;
 
-pub use faults::Reason;
-pub use joining::join_parents;
-pub use recording::record_patch;
+pub use faults::{ImportFault, Reason};
+pub use histories::import_commits;
+pub use importing::{Imported, import_commit};
+pub use laws::imported_commits_are_held;
+pub use moments::{Moments, find_moments};
+pub use places::Place;
+pub use planning::plan_places;

@@ -9,7 +9,7 @@ use camp_base::Name;
 use camp_repo::{Book, Call, Changes, State};
 
 /// Records a patch on a branch: one part of a commit, or all of it.
-pub fn record_patch(
+pub(crate) fn record_patch(
     book: &mut Book<State>,
     seat: u32,
     branch: &Name,
@@ -18,7 +18,7 @@ pub fn record_patch(
 ) -> Result<(), Reason>
     ensures exact { OrFails (RecordsPatch name.now branch.now changes) (RecordsBy name.now branch.now changes) branch.now book.old result book.new }
 {
-    // Its clauses say that a patch has 1 to 64 changes.
+    // Calling `prims` tells the prover, by its clauses, that a patch has 1 to 64 changes.
     let _prims = changes.prims();
     let call = Call::Record {
         branch: *branch,

@@ -15,7 +15,7 @@ use Rattle.camp_object.specs.Objects.{IsFirst, begun}
 use Rattle.camp_repo.specs.Limits.{Bounds}
 use Rattle.camp_repo.specs.Objects.{repository}
 use Rattle.camp_script.specs.Canonical.{call_text}
-use Rattle.camp_script.specs.Keeping.{CanStand, calls_of}
+use Rattle.camp_script.specs.Keeping.{CanBeInScript, calls_of}
 use Rattle.camp_store.specs.Blocks.{DecodesTo}
 use Rattle.camp_store.specs.Logs.{IsAppendFault, IsBeforeOrAfter}
 use Rattle.camp_store.specs.declared.faults.StoreFault.{StoreFault}
@@ -68,12 +68,12 @@ slice_is history calls front k is =
 -- the texts of a commit, appended to those of the persisted calls, are those of all calls
 pub committed : (stored : StoreContents) (read : List (ℕ × Call)) (book : History) → read ≡ book.calls → IsFirst repository book.first → IsLegal (begun repository book.first) book.calls
     → (k : ℕ) → k ≡ length stored.calls → AreAccepted stored → IsPrefixOf stored (accepted_of book)
-    → (new : List (List ℕ)) → new ≡ call_texts (calls_of (take (length read - k) (drop k read))) → AllByRecursion CanStand (calls_of (take (length read - k) (drop k read)))
+    → (new : List (List ℕ)) → new ≡ call_texts (calls_of (take (length read - k) (drop k read))) → AllByRecursion CanBeInScript (calls_of (take (length read - k) (drop k read)))
     → AreAccepted (accepted_of book) × (store_texts stored ++ new ≡ store_texts (accepted_of book))
 committed stored read book value first legal k is accepted front new are stand =
     let slice : calls_of (take (length read - k) (drop k read)) ≡ front.calls.rest =
     ap (λ (h : List (ℕ × Call)). calls_of (take (length h - k) (drop k h))) value ∙ slice_is book.calls stored.calls front.calls k is in (
-      accepted_more stored (accepted_of book) front accepted.range accepted.can (subst (AllByRecursion CanStand) slice stand) (legal_alone book first legal),
+      accepted_more stored (accepted_of book) front accepted.range accepted.can (subst (AllByRecursion CanBeInScript) slice stand) (legal_alone book first legal),
       ap (λ (l : List (List ℕ)). store_texts stored ++ l) (are ∙ ap call_texts slice) ∙ texts_grow stored (accepted_of book) front,
     )
 

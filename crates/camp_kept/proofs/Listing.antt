@@ -16,7 +16,7 @@ use Rattle.camp_repo.specs.Objects.{next_of, repository, repository_within}
 use Rattle.camp_repo.specs.States.{Contents, new_within}
 use Rattle.camp_repo.specs.Steps.{step}
 use Rattle.camp_script.specs.Canonical.{IsScriptCall}
-use Rattle.camp_script.specs.Keeping.{CanStand, ListsNames, calls_of}
+use Rattle.camp_script.specs.Keeping.{CanBeInScript, ListsNames, calls_of}
 
 -- an accepted call that lists names lists at least one
 pub lists_names : (state : Contents) (c : Call) → next_of (step state c) ≢ None → ListsNames c
@@ -50,7 +50,7 @@ module _ (limits : Bounds) where
   run_alone state [] = refl
   run_alone state (entry ∷ history) = run_alone (option_and_then (λ s. object.after s entry.1) state) history
 
-both : (one two : List Call) → AllByRecursion IsScriptCall one → AllByRecursion CanStand two → AllByRecursion ListsNames (one ++ two) → AllByRecursion IsScriptCall (one ++ two)
+both : (one two : List Call) → AllByRecursion IsScriptCall one → AllByRecursion CanBeInScript two → AllByRecursion ListsNames (one ++ two) → AllByRecursion IsScriptCall (one ++ two)
 both [] [] can stand lists = tt
 both [] (c ∷ two) can stand lists = (stand.0 lists.0, both [] two tt stand.1 lists.1)
 both (c ∷ one) two can stand lists = (can.0, both one two can.1 stand lists.1)
@@ -63,7 +63,7 @@ legal_alone history first legal =
     subst (λ (o : Option Contents). IsSome o) (run_alone limits (Some (new_within limits)) history.calls) here
 
 -- accepted calls that a script can contain, and more
-pub accepted_more : (some all : StoreContents) (front : IsPrefixOf some all) → CanBeLimits some.limits → AllByRecursion IsScriptCall some.calls → AllByRecursion CanStand front.calls.rest
+pub accepted_more : (some all : StoreContents) (front : IsPrefixOf some all) → CanBeLimits some.limits → AllByRecursion IsScriptCall some.calls → AllByRecursion CanBeInScript front.calls.rest
     → IsLegal (repository_within all.limits) (alone all.calls) → AreAccepted all
 accepted_more some all front range can stand legal = record {
   range = subst CanBeLimits front.limits range;

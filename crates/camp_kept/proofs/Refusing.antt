@@ -2,7 +2,7 @@
 use Rattle.std.proofs.Common.{◌≡◌, ◌≢◌, ◌≤◌, ◌+◌, inl, inr, ℕ, zero, suc, Bool, false, List, [], ◌∷◌, ◌++◌, length, Result, Ok, Err, IfErr, IsErrAnd, IsTrue, Option, None, refl, sym, ◌∙◌, ap, subst, arith, length-append, true≢false, ◌<◌}
 use Rattle.std.proofs.lemmas.List.{nil_from_length}
 use Rattle.camp_call.specs.declared.calls.Call.{Call}
-use Rattle.camp_kept.specs.Faults.{IsContentFault, IsTitleFault, RefusesFile, RefusesToOpen, ReportsDiskFault, fault_of}
+use Rattle.camp_kept.specs.Faults.{IsContentFault, IsTitleFault, RefusesFile, RefusesToOpen, fault_of}
 use Rattle.camp_kept.specs.Accepting.{AreAccepted, History, StoreContents, alone, empty_within}
 use Rattle.camp_kept.specs.Persisting.{DecodesToCalls, LeavesRepository, call_texts, max_untitled_len, store_texts}
 use Rattle.camp_kept.specs.Titles.{CanBeLimits, SaysLimits, title_of}
@@ -16,7 +16,6 @@ use Rattle.camp_object.specs.Histories.{IsAccepted}
 use Rattle.camp_repo.specs.Limits.{Bounds}
 use Rattle.camp_repo.specs.Objects.{repository_within}
 use Rattle.camp_store.specs.Blocks.{AllFit, AreBlocks, DecodesTo, IsBlock, IsEnd, blocks, body, chain, first_digest, head}
-use Rattle.camp_store.specs.Counting.{ReportsFault}
 use Rattle.camp_store.specs.Logs.{IsAppendFault, IsAppendable, IsMarkFault, LeavesLog, PersistsTexts, end_offset}
 use Rattle.camp_store.specs.Readings.{IsDamaged, IsDecodeFault, IsDecodedFrom, IsReadingFault, ReportsDamage}
 use Rattle.camp_store.specs.declared.logs.Log.{Log}
@@ -139,14 +138,6 @@ another_title wanted text texts none file decodes =
       long = λ empty. absurd (no_texts text texts (decodes_once (text ∷ texts) [] file decodes empty));
     }
 
--- a long file without texts
-pub no_text : (wanted : Option Bounds) (file : List ℕ) → DecodesTo [] file → max_untitled_len < length file → RefusesFile wanted persistence.NoStore file
-no_text wanted file decodes long = record {
-  untitled = λ limits range after block. block_is_no_end first_digest (title_of limits) after file block
-      (subst (λ (f : List ℕ). IsEnd f) (sym (decodes.split ∙ ap (λ (l : List ℕ). l ++ decodes.end) decodes.are)) decodes.ends);
-  long = λ none. long;
-}
-
 -- a file of texts, one of which is of no call that is accepted there
 pub not_accepted : (limits : Bounds) (done : List (List ℕ)) (text : List ℕ) (rest : List (List ℕ)) (history after : History) → CanBeLimits limits → AreReplayed limits done history
     → ReplaysText history text false after → (file : List ℕ) → DecodesTo (title_of limits ∷ (done ++ text ∷ rest)) file → (new : Bounds) (stored : StoreContents) → AreAccepted stored → DecodesToCalls new stored file → ⊥
@@ -158,44 +149,6 @@ not_accepted limits done text rest history after range asked none file decodes n
     let next = accepted_call_after asked.calls stored text rest asked.can accepted e in
     subst (λ (h : History). ReplaysText h text false after) asked.is none next.0 next.1 next.2
     (subst (λ (l : Bounds). IsAccepted (repository_within l) (alone asked.calls) next.0) same next.3)
-
--- what a batch that is not appended leaves of a repository
-leaves_repository : {D : Type 0} (why : StoreFault) (old : DurableRepository D) (new : Log D) → LeavesLog why old.log new → LeavesRepository (fault_of why) old (record old { log = new })
-leaves_repository store.Memory old new leaves = ap (λ l. record old { log = l }) leaves
-leaves_repository (store.Disk error) old new leaves = leaves
-leaves_repository store.TooLong old new leaves = ap (λ l. record old { log = l }) leaves
-leaves_repository (store.Damaged zero at) old new leaves = absurd leaves
-leaves_repository (store.Damaged (suc n) at) old new leaves = absurd leaves
-leaves_repository store.Failed old new leaves = ap (λ l. record old { log = l }) leaves
-
-pub leaves_so : {T D : Type 0} (result : Result T PersistenceFault) (why : StoreFault) (old : DurableRepository D) (new : Log D) → IsErrAnd result (λ fault. fault ≡ fault_of why)
-    → LeavesLog why old.log new → IfErr result (λ fault. LeavesRepository fault old (record old { log = new }))
-leaves_so (Ok value) why old new is leaves = tt
-leaves_so (Err fault) why old new is leaves =
-    subst (λ (f : PersistenceFault). LeavesRepository f old (record old { log = new })) (sym is) (leaves_repository why old new leaves)
-
--- a fault of the disk that a log reports is one of the disk
-reports_from : (why : StoreFault) (old new : ℕ) → ReportsFault why old new → ReportsDiskFault (fault_of why) old new
-reports_from store.Memory old new reports = tt
-reports_from (store.Disk error) old new reports = reports
-reports_from store.TooLong old new reports = reports
-reports_from (store.Damaged zero at) old new reports = tt
-reports_from (store.Damaged (suc n) at) old new reports = tt
-reports_from store.Failed old new reports = reports
-
-pub reports_so : {T : Type 0} (result : Result T PersistenceFault) (why : StoreFault) (old new : ℕ) → IsErrAnd result (λ fault. fault ≡ fault_of why)
-    → ReportsFault why old new → IfErr result (λ fault. ReportsDiskFault fault old new)
-reports_so (Ok value) why old new is reports = tt
-reports_so (Err fault) why old new is reports = subst (λ (f : PersistenceFault). ReportsDiskFault f old new) (sym is) (reports_from why old new reports)
-
--- a batch that is not appended does not mean that the file is refused because of its bytes
-pub append_fault_is_no_content_fault : {D : Type 0} (is_usable : D → Bool) (log : Log D) (texts : List (List ℕ)) (why : StoreFault) → IsAppendFault is_usable log texts why → ¬ (IsContentFault (fault_of why))
-append_fault_is_no_content_fault is_usable log texts store.Memory of contents = contents
-append_fault_is_no_content_fault is_usable log texts (store.Disk error) of contents = contents
-append_fault_is_no_content_fault is_usable log texts store.TooLong of contents = contents
-append_fault_is_no_content_fault is_usable log texts (store.Damaged zero at) of contents = of
-append_fault_is_no_content_fault is_usable log texts (store.Damaged (suc n) at) of contents = of
-append_fault_is_no_content_fault is_usable log texts store.Failed of contents = contents
 
 -- the fault with which a damaged file was reported
 pub refused_from : {T : Type 0} (Known : Type 0) (usable : Bool) (wanted : Option Bounds) (result : Result T PersistenceFault) (why : StoreFault) (file : List ℕ) → IsErrAnd result (λ fault. fault ≡ fault_of why)

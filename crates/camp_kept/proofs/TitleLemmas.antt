@@ -26,9 +26,6 @@ joined limits = join_with_byte 32 (limit_words limits)
 pub written : (catches branches : List ℕ) → ((catches ++ codes " branches ") ++ branches) ++ 10 ∷ [] ≡ (catches ++ (codes " branches " ++ branches)) ++ 10 ∷ []
 written catches branches = ap (λ (l : List ℕ). l ++ 10 ∷ []) (append_assoc catches (codes " branches ") branches)
 
-short_number : (k n : ℕ) → 0 < k → n < 10 ^ k → n < 2 ^ 64 → length (decimal n) ≤ k
-short_number k n some below small = length-decimal-le k n some below small
-
 joined_short : (limits : Bounds) → CanBeLimits limits → length (joined limits) ≤ 31
 joined_short limits range =
     let one : length (decimal limits.catches) ≤ 8 = length-decimal-le 8 limits.catches (omega arith) (omega (arith, range.few_catches)) (omega (arith, range.few_catches)) in
@@ -132,13 +129,6 @@ says_with limits text is other = by (is_default limits) refl where
   by : (default : Bool) → is_default limits ≡ default → title_with limits ≡ text
   by true are = absurd (other (sym is ∙ cond-true _ _ _ are))
   by false are = sym (cond-false _ _ _ are) ∙ is
-
--- the title of the default limits is that of no others
-pub says_default : (limits : Bounds) (text : List ℕ) → CanBeLimits limits → title_of limits ≡ text → text ≡ codes "camp store 1\n" → limits ≡ default_bounds
-says_default limits text range is short = by (is_default limits) refl where
-  by : (default : Bool) → is_default limits ≡ default → limits ≡ default_bounds
-  by true are = is_the_default limits are
-  by false are = absurd (omega (arith, longer limits (codes "camp store 1\n") (sym (cond-false _ _ _ are) ∙ is ∙ short)))
 
 -- limits are made of their numbers
 pub bounded_in_range : (limits : Bounds) → CanBeLimits limits → bounded limits.catches limits.branches ≡ Ok limits

@@ -95,12 +95,12 @@ abbrev pub IsNoDiskFault : PersistenceFault → Type 0
 IsNoDiskFault (persistence.Store fault) = ⊥
 IsNoDiskFault other = Unit {0}
 
--- a disk fault is reported only if a disk call has failed
+-- a disk fault is reported only if a disk call has failed, and any other fault only if none has
 abbrev pub ReportsDiskFault : PersistenceFault → ℕ → ℕ → Type 0
 ReportsDiskFault (persistence.Store fault) old new = ReportsFault fault old new
-ReportsDiskFault other old new = Unit {0}
+ReportsDiskFault other old new = new ≡ old
 
--- after `Ok` no disk call has failed; a disk fault is reported only if one has
+-- after `Ok`, and after any fault but one of the disk, no disk call has failed; after a disk fault, one has
 abbrev pub CountsDiskFaults : {T : Type 0} → Result T PersistenceFault → ℕ → ℕ → Type 0
 CountsDiskFaults result old new = MatchResult result (λ _. new ≡ old) (λ why. ReportsDiskFault why old new)
 

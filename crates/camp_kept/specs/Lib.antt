@@ -1,6 +1,7 @@
 pub mod Accepting
 pub mod TornTails
 pub mod Faults
+pub mod Openings
 pub mod Persisting
 pub mod Laws
 pub mod Replaying

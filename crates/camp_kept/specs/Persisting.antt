@@ -76,7 +76,8 @@ AreFirstCalls stored repository = IsPrefixOf stored (accepted_by repository)
 abbrev pub durable_count_in : {D : Type 0} → DurableRepository D → ℕ
 durable_count_in repository = repository.durable_count
 
--- the book has fewer calls than are known to be durable, so it is not the one whose calls were persisted
+-- the book has fewer calls than are known to be durable, so it is not the one whose calls were persisted; another one
+-- with as many calls is not told apart
 abbrev pub HasFewerCalls : {D : Type 0} → DurableRepository D → Type 0
 HasFewerCalls repository = length (accepted_by repository).calls < durable_count_in repository
 

@@ -26,8 +26,8 @@ abbrev pub ExecutesCall : History → Call → Bool → History → Type 0
 ExecutesCall before call true after = after ≡ then_call before call
 ExecutesCall before call false after = ¬ (CanBeNext before call)
 
--- the call with this text is executed after the history. True: it is accepted and added at seat 0. False: no call with
--- this text that a script can contain is accepted
+-- the call with this text is executed after the history. True: it is accepted and added at seat 0. False: no call that
+-- a script can contain has this text and is accepted
 abbrev pub ReplaysText : History → List ℕ → Bool → History → Type 0
 ReplaysText before text true after = (call : Call) × IsScriptCall call × (call_text call ≡ text) × (after ≡ then_call before call)
 ReplaysText before text false after = (call : Call) → IsScriptCall call → call_text call ≡ text → ¬ (CanBeNext before call)

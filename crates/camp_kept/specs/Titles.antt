@@ -38,7 +38,7 @@ limits_among (first ∷ catches ∷ third ∷ branches ∷ []) =
     option_and_then (λ most. option_and_then (λ others. Some (most, others)) (count_of branches)) (count_of catches)
 limits_among others = None
 
--- the limits of a new store if these are wanted: these, or the default ones if none are
+-- the limits of a new store: the wanted ones, or the default ones if none are wanted
 abbrev pub new_limits : Option Bounds → Bounds
 new_limits wanted = unwrap_or wanted default_bounds
 

@@ -2,6 +2,7 @@
 ghost use Rattle.std.specs.Prelude.{◌≡◌, ◌≤◌, [], List, Option, ℕ, length, IfErr, IfOk, IsTrue};
 ghost use Rattle.camp_kept.specs.Accepting.{StoreContents, empty_within};
 ghost use Rattle.camp_kept.specs.TornTails.{HasTornTail};
+ghost use Rattle.camp_kept.specs.Openings.{LeavesTexts};
 ghost use Rattle.camp_kept.specs.Faults.{CountsDiskFaults, IsContentFault, IsNoDiskFault, IsTitleFault, RefusesFile, RefusesToOpen, ReportsDiskFault};
 ghost use Rattle.camp_kept.specs.Persisting.{AreTexts, DecodesToCalls, max_untitled_len, store_texts};
 ghost use Rattle.camp_kept.specs.declared.faults.PersistenceFault.TheVariants as fault;
@@ -80,10 +81,7 @@ pub(crate) fn ensure_title<D: Disk>(
     ensures persists { IfOk result (λ new. (stored : StoreContents) → AreTexts limits (texts_of texts.now) stored
         → PersistsTexts D.Disk.seen D.Disk.may_leave (texts_of texts.now) log
         → PersistsTexts D.Disk.seen D.Disk.may_leave (store_texts stored) new) }
-    ensures crash { IfErr result (λ e. (stored : StoreContents) → AreTexts limits (texts_of texts.now) stored
-        → PersistsTexts D.Disk.seen D.Disk.may_leave (texts_of texts.now) log
-        → (texts_of texts.now ≡ [] → length (D.Disk.seen (disk_of log)) ≤ max_untitled_len)
-        → (c : List ℕ) → D.Disk.may_leave e.1 c → DecodesToCalls limits stored c) }
+    ensures crash { IfErr result (λ e. LeavesTexts D.Disk.seen D.Disk.may_leave limits (texts_of texts.now) log e.1) }
     ensures clean { IfOk result (λ new. D.Disk.is_clean (disk_of new) ≡ D.Disk.is_clean (disk_of log)) }
     ensures clean_err { IfErr result (λ e. D.Disk.is_clean e.1 ≡ D.Disk.is_clean (disk_of log)) }
     ensures untitled { IfErr result (λ e. PersistsTexts D.Disk.seen D.Disk.may_leave (texts_of texts.now) log → IsAppendable D.Disk.is_usable log → IsTitleFault e.0) }

@@ -18,7 +18,8 @@ use std::alloc::Global;
 /// A book with a disk. All of its accepted calls are durable after each commit.
 #[derive(Drop)]
 pub struct DurableRepository<D: Disk> {
-    /// The book. Execute calls on it; do not replace it by another.
+    /// The book. Execute calls on it; do not replace it by another: `commit` refuses one with fewer calls than are
+    /// durable, and nothing is promised of one with as many.
     pub book: Book<State>,
     log: Log<D>,
     /// The number of calls that are known to be durable.
@@ -105,6 +106,7 @@ impl<D: Disk> DurableRepository<D> {
         ensures stopped { may_commit self.old ≡ false → (result ≡ Err (fault.Store store_fault.Failed)) × (self.new ≡ self.old) }
         ensures fewer { HasFewerCalls self.old → (result ≡ Err (fault.Store store_fault.Failed)) × (self.new ≡ self.old) }
         ensures refused { IfErr result (RefusesToCommit D.Disk.is_usable self.old) }
+        ensures tail { torn_tail_len_in self.new ≡ torn_tail_len_in self.old }
         ensures known { MatchResult result (λ _. durable_count_in self.new ≡ length (accepted_by self.new).calls) (λ _. durable_count_in self.new ≡ durable_count_in self.old) }
         ensures faults { CountsDiskFaults result (D.Disk.faults (disk_in self.old)) (D.Disk.faults (disk_in self.new)) }
         ensures fault { IfErr result IsCommitFault }

@@ -2,7 +2,7 @@
 ghost use Rattle.std.specs.Prelude.{◌≡◌, IfOk};
 ghost use Rattle.std.specs.List.{AllByRecursion};
 ghost use Rattle.camp_kept.specs.Persisting.{call_texts};
-ghost use Rattle.camp_script.specs.Keeping.{CanStand, calls_of};
+ghost use Rattle.camp_script.specs.Keeping.{CanBeInScript, calls_of};
 ghost use Rattle.camp_store.specs.Logs.{texts_of};
 
 use camp_repo::Call;
@@ -15,7 +15,7 @@ pub(crate) fn render_calls(
     history: &[(u32, Call)],
 ) -> Result<Vec<Vec<u8>>, AllocError>
     ensures texts { IfOk result (λ texts. texts_of texts.items ≡ call_texts (calls_of history.now)) }
-    ensures stand { IfOk result (λ _. AllByRecursion CanStand (calls_of history.now)) }
+    ensures stand { IfOk result (λ _. AllByRecursion CanBeInScript (calls_of history.now)) }
 {
     let mut texts = Vec::new(alloc);
     for entry in history {

@@ -23,7 +23,7 @@ IsUnwritten (fault.Talk why) = ⊥
 IsUnwritten (fault.Frame why) = ⊥
 IsUnwritten (fault.Write error) = Unit {0}
 
--- the fault that is reported for a step whose answer goes to memory: if the answer can't be buffered, out of memory
+-- the fault to report if a step fails that buffers its answer: if the buffer can't grow, out of memory
 abbrev pub write_as_memory : TalkFault → TalkFault
 write_as_memory Memory = Memory
 write_as_memory (Read error) = Read error
@@ -44,7 +44,7 @@ WritesNone before after (fault.Talk why) = Unit {0}
 WritesNone before after (fault.Frame why) = Unit {0}
 WritesNone before after (fault.Write error) = Unit {0}
 
--- commands were answered one after the other, and then came a step with a fault, which is reported as this
+-- commands were answered one after the other, and then a step failed; this is the fault that is reported
 pub record EndsReported (remaining rest old now : Option (List ℕ)) (first : SessionState) (reported : TalkFault) (history : Entries) : Type 0 where
   pub why : TalkFault
   pub reported_is : reported ≡ write_as_memory why
@@ -102,9 +102,10 @@ module _ {D : Type 0} (seen : D → List ℕ) (may_leave : D → List ℕ → Ty
     pub is : last.history ≡ kept.book
 
   -- the calls could not be persisted: commands were answered, and exactly the answers to those up to a position were
-  -- written; no more was read than one further command. The accepted calls are those of all these commands. Every crash
-  -- leaves a store of the same prefix of them, which has all those up to the position, or at least those that were
-  -- durable at first; or a store of all of them. Either no commit is possible any more, or that prefix is durable.
+  -- written; no more was read than one further command. The accepted calls are those of all these commands. One prefix
+  -- of them has all that were accepted up to the position or, if nothing was answered, those that were durable at
+  -- first; every crash leaves a store of that prefix, or of all of them. Either no commit is possible any more, or that
+  -- prefix is durable.
   pub record StopsNotDurable (durable : StoreContents) (remaining rest old now : Option (List ℕ)) (first : SessionState) (why : PersistenceFault) (kept : DurableRepository D) : Type 0 where
     pub middle : SessionState
     pub last : SessionState

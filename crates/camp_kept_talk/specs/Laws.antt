@@ -7,8 +7,8 @@ use Rattle.camp_kept_talk.specs.Serving.{KeptCounter, ServesKeptAt}
 use Rattle.camp_talk.specs.Dialogues.{StepsLead}
 use Rattle.camp_talk.specs.Frames.{ServesInTurn}
 
--- if some first calls are durable, steps that serve requests over a durable repository, one after the other, give to
--- each the answer after those before it; and if a request was served, all accepted calls are durable
+-- if requests are served one after the other over a durable repository, of which some first calls are durable, each
+-- gets the answer after the requests before it; once one was served, all accepted calls are durable
 abbrev pub KeptRequestsAreServedInTurn : {D : Type 0} → (D → List ℕ) → (D → List ℕ → Type 0) → Type 0
 KeptRequestsAreServedInTurn {D = D} seen may_leave =
     (durable : StoreContents) (first last : KeptCounter D) (over : List (KeptCounter D)) → AreFirstCalls durable first.kept → PersistsCalls seen may_leave durable first.kept

@@ -27,7 +27,7 @@ pub record AnswersWritten (remaining left old new : Option (List ℕ)) (first la
   pub reads : Consumes remaining left (flat_map (λ exchange. exchange.command) (exchanges ++ more))
   pub writes : AppendsSome old new (flat_map (λ exchange. exchange.answer) (exchanges ++ more))
 
--- the calls that have to be durable: before the first answer those that were durable at first, and then all that were
+-- the calls that have to be durable: those that were durable at first; once a command was answered, all that were
 -- accepted before the last answer
 abbrev pub durable_at_least : {Answered : Type 0} → List Answered → StoreContents → StoreContents → StoreContents
 durable_at_least [] durable accepted = durable

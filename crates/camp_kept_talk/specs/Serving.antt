@@ -14,25 +14,25 @@ use Rattle.camp_talk.specs.Frames.{IsNotCountable, Serves, WritesNot}
 use Rattle.camp_talk.specs.declared.frames.FrameFault.{FrameFault}
 use Rattle.camp_talk.specs.declared.frames.FrameFault.TheVariants.{Cut, NoNumber, Talk, TooLarge}
 
--- serving a request into memory had this result
+-- serving a request, with the frame of its answer written to a buffer, had this result
 pub record ServesHeld (remaining rest : Option (List ℕ)) (before : Entries) (came : Result Bool FrameFault) (after : Entries) : Type 0 where
   pub frame : List ℕ
   pub serves : Serves remaining rest (Some []) (Some frame) before came after
 
--- the fault that is reported for serving into memory: if the answer can't be stored, out of memory
+-- the fault to report if a request fails whose answer is buffered: if the buffer can't grow, out of memory
 abbrev pub frame_write_as_memory : FrameFault → FrameFault
 frame_write_as_memory NoNumber = NoNumber
 frame_write_as_memory TooLarge = TooLarge
 frame_write_as_memory Cut = Cut
 frame_write_as_memory (Talk why) = Talk (write_as_memory why)
 
--- serving a request had a fault before anything was written, and it is reported as this
+-- a request failed before anything was written; this is the fault that is reported
 pub record ServesNone (remaining rest : Option (List ℕ)) (before : Entries) (reported : FrameFault) (after : Entries) : Type 0 where
   pub why : FrameFault
   pub reported_is : reported ≡ frame_write_as_memory why
   pub held : ServesHeld remaining rest before (Err why) after
 
--- serving a request had this result, and then its calls could not be persisted
+-- a request was served or had a fault, but then its calls could not be persisted
 pub record ServesUnkept (remaining rest : Option (List ℕ)) (before after : Entries) : Type 0 where
   pub came : Result Bool FrameFault
   pub held : ServesHeld remaining rest before came after
@@ -42,11 +42,11 @@ module _ {D : Type 0} (seen : D → List ℕ) (may_leave : D → List ℕ → Ty
   abbrev pub MayKeep : StoreContents → DurableRepository D → Type 0
   MayKeep durable new = (c : List ℕ) → may_leave (disk_in new) c → IsStoreOf durable c ⊎ IsStoreOf (accepted_by new) c
 
-  -- serving one request over a repository of which these first calls are durable. Ok: it was served as over a book, and
-  -- all accepted calls are durable; or there was no request, and the same calls are durable. Commit: it was served, or
-  -- had a fault, and nothing was written; a crash leaves the calls that were durable before, or all. Frame: it had this
-  -- fault, and nothing was written; all accepted calls are durable. Write: it was answered, and all accepted calls are
-  -- durable; a prefix of its answer was written.
+  -- the service of one request, if these first calls of the repository are durable. Ok: it was served as over a book,
+  -- and all accepted calls are durable; or there was no request, and the same calls are durable. Commit: it was served,
+  -- or had a fault, and nothing was written; a crash leaves the calls that were durable before, or all. Frame: it had
+  -- this fault, and nothing was written; all accepted calls are durable. Write: it was answered, and all accepted calls
+  -- are durable; a prefix of its answer was written.
   abbrev pub ServesKept : (remaining rest before after : Option (List ℕ)) → StoreContents → DurableRepository D → Result Bool StoredFault → DurableRepository D → Type 0
   ServesKept remaining rest before after durable old (Ok true) new =
       Serves remaining rest before after old.book (Ok true) new.book × PersistsCalls seen may_leave (accepted_by new) new
@@ -60,7 +60,7 @@ module _ {D : Type 0} (seen : D → List ℕ) (may_leave : D → List ℕ → Ty
   ServesKept remaining rest before after durable old (Err (fault.Write error)) new =
       WritesNot remaining rest before after old.book new.book × PersistsCalls seen may_leave (accepted_by new) new
 
--- after this number of requests the next one was not served. Internal: its number, counted from 1, is not below 2^64.
+-- a request fails after this number of requests were served. Internal: its number, counted from 1, is not below 2^64.
 abbrev pub IsNotCountableStored : ℕ → StoredFault → Type 0
 IsNotCountableStored served (fault.Frame why) = IsNotCountable served why
 IsNotCountableStored served other = Unit {0}
@@ -85,7 +85,7 @@ pub record KeptCounter (D : Type 0) : Type 0 where
   pub held : Option (List ℕ)
   pub kept : DurableRepository D
 
--- serving one request, from one state to another, whichever first calls are durable
+-- one request is served, which leads from one state to another; this holds for all first calls that are durable before
 abbrev pub ServesKeptAt : {D : Type 0} → (D → List ℕ) → (D → List ℕ → Type 0) → KeptCounter D → Result Bool StoredFault → KeptCounter D → Type 0
 ServesKeptAt seen may_leave from answer to =
     (durable : StoreContents) → AreFirstCalls durable from.kept → PersistsCalls seen may_leave durable from.kept

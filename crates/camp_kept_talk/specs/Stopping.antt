@@ -34,8 +34,8 @@ pub record StaysStopped {D W : Type 0} (old new : DurableRepository D) (before a
   pub known : durable_count_in new ≡ durable_count_in old
   pub stopped : may_commit new ≡ false
 
--- a fault of the store comes from a commit; it is one of the disk only if a disk call has failed, and any other fault
--- is reported only if none has
+-- a reported fault of the store is one that a commit can have, and it is a disk fault only if a disk call has failed; a
+-- fault of another kind is reported only if no disk call has failed
 abbrev pub ReportsStored : StoredFault → ℕ → ℕ → Type 0
 ReportsStored (fault.Commit why) old new = IsCommitFault why × ReportsDiskFault why old new
 ReportsStored (fault.Talk why) old new = new ≡ old

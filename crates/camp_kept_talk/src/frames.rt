@@ -49,7 +49,7 @@ pub fn serve_kept<D: Disk, R: BufRead, W: Write>(
     }
 }
 
-// Returns why a request whose answer goes to memory could not be served: if the answer can't be stored, out of memory.
+// Returns the fault to report if a request fails whose answer is buffered: if the buffer can't grow, out of memory.
 fn frame_write_as_memory(why: FrameFault) -> FrameFault
     ensures { result ≡ frame_write_as_memory why }
 {

@@ -1,8 +1,8 @@
 //! Whether a command is ready to be read.
 use bstr::ByteSlice;
 
-/// True only if bytes begin with a complete command: a line that is one, or a line whose body or group has its end
-/// there. False decides nothing. Only a line with the word `edit` or `group` is followed by lines that belong to it.
+/// True only if bytes begin with a complete command: one line, or a line with its whole body or group. If false, they
+/// may begin with one all the same. Only a line with the word `edit` or `group` is followed by lines that belong to it.
 pub(crate) fn begin_with_command(bytes: &[u8]) -> bool {
     let Some(feed) = bytes.find(b"\n") else {
         return false;

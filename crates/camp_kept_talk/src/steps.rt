@@ -43,13 +43,13 @@ impl AnswerBuffer {
         AnswerBuffer {
             answers: Vec::new(alloc),
             lines: 0,
-            diagnostic: Diagnostic::new(alloc),
+            diagnostic: Diagnostic::new(),
         }
     }
 }
 
-/// Takes a step: reads a command, executes it on the book, and buffers its answer. True if there may be more. All
-/// answers are flushed before that if no command is ready or much is buffered, and at the end of the input.
+/// Takes a step: reads a command, executes it on the book, and buffers its answer. True if there may be more. First
+/// flushes all answers if no command is ready or much is buffered; flushes them at the end of the input, too.
 pub fn take_stored_step<D: Disk, R: BufRead, W: Write>(
     alloc: Global,
     kept: &mut DurableRepository<D>,
@@ -158,7 +158,7 @@ fn read_and_buffer<D: Disk, R: BufRead, W: Write>(
     }
 }
 
-// Returns why a step failed whose answer goes to memory: if the answer can't be buffered, out of memory.
+// Returns the fault to report if a step fails that buffers its answer: if the buffer can't grow, out of memory.
 fn write_as_memory(why: TalkFault) -> TalkFault
     ensures { result ≡ write_as_memory why }
 {

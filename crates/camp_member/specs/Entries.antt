@@ -49,12 +49,12 @@ module _ {Call : Type 0} where
   abbrev pub last_of : List (Tagged Call) → ℕ → ℕ
   last_of entries seat = length (of_seat seat entries)
 
-  -- the entries that count, with what comes next in the log if it has the next number of its seat
+  -- the entries that count so far, followed by what comes next in the log if that has the next number of its seat
   abbrev pub counted_with : List (Tagged Call) → Option (Tagged Call) → List (Tagged Call)
   counted_with before None = before
   counted_with before (Some entry) = if entry.number == last_of before entry.seat + 1 then before ++ entry ∷ [] else before
 
-  -- the entries that count, with those of the rest of the log that do
+  -- the entries that count so far, followed by those of the rest of the log that count
   abbrev pub counted_after : List (Tagged Call) → List (Option (Tagged Call)) → List (Tagged Call)
   counted_after before [] = before
   counted_after before (found ∷ log) = counted_after (counted_with before found) log

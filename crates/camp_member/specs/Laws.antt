@@ -32,7 +32,7 @@ module _ {State Call Reply : Type 0} (object : Sequential State Call Reply) wher
       (log : List (Option (Tagged Call))) (old new : Reading State Call) (entry : Tagged Call) (replies : List Reply)
       → IsReadingOf object log old → ReadsEntry object old entry replies new → IsReadingOf object (log ++ Some entry ∷ []) new
 
-  -- what is foreign to a reader of a log cannot be read after that log
+  -- a log followed by what is foreign to a reader of that log is not readable
   abbrev pub StopsAtForeign : Type 0
   StopsAtForeign =
       (log : List (Option (Tagged Call))) (reading : Reading State Call) (found : Option (Tagged Call))
@@ -44,14 +44,14 @@ module _ {State Call Reply : Type 0} (object : Sequential State Call Reply) wher
       (log : List (Option (Tagged Call))) (one two : Reading State Call)
       → IsReadingOf object log one → IsReadingOf object log two → one.history ≡ two.history
 
-  -- of the histories of two readers, each of a part of one log from its start, one is a prefix of the other
+  -- if two readers have read two prefixes of one log, the history of one of them is a prefix of that of the other
   abbrev pub ReadersShareOneHistory : Type 0
   ReadersShareOneHistory =
       (log first second : List (Option (Tagged Call))) (one two : Reading State Call)
       → IsBeginning first log → IsBeginning second log → IsReadingOf object first one → IsReadingOf object second two
       → IsBeginning one.history two.history ⊎ IsBeginning two.history one.history
 
-  -- the history gets those calls of a seat that were accepted, each once, in the order of the requests
+  -- the accepted calls of a seat are added to the history, each once, in the order of the requests
   abbrev pub AcceptedOnce : Type 0
   AcceptedOnce =
       (seat : ℕ) (seen : List (ℕ × Call)) (told : List (AnsweredRequest Call Reply)) (now : List (ℕ × Call))
@@ -63,13 +63,14 @@ module _ {State Call Reply : Type 0} (object : Sequential State Call Reply) wher
       (one two three : Membership State Call Reply)
       → IsLegal object two.reading.history → MemberAdvances object AnyReason one two → MemberAdvances object AnyReason two three → MemberAdvances object AnyReason one three
 
-  -- an advance in which fewer reasons for no reply are allowed is one in which more are
+  -- a member that advances while only some reasons for no reply are allowed also advances if every reason is allowed
   pub record AdvancesAnyhow : Type 0 where
     pub replies : (old new : Membership State Call Reply) → MemberAdvances object (λ _ _. ⊥) old new → MemberAdvances object AnyReason old new
     pub stopped : (member old new : Membership State Call Reply) → MemberAdvances object (IsStopped object member) old new → MemberAdvances object AnyReason old new
     pub one_reason : (reason : NoReply) (old new : Membership State Call Reply) → MemberAdvances object (λ _ why. why ≡ reason) old new → MemberAdvances object AnyReason old new
 
-  -- what a member has read of a log and what it then finds is what it has read afterwards
+  -- a member that has read a log and then finds what comes next has afterwards read the longer log; one that finds what
+  -- it has read already is unchanged
   abbrev pub FindsOn : Type 0
   FindsOn =
       (log : List (Option (Tagged Call))) (old new : Membership State Call Reply) (index : ℕ) (found : Option (Tagged Call))

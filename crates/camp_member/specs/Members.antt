@@ -18,7 +18,7 @@ pub record Membership (State Call Reply : Type 0) : Type 0 where
   pub sent : ℕ
   pub answers : List (ℕ × Result Reply NoReply)
 
--- a new member, which was asked nothing and has read nothing
+-- a new member, which has no request and has read nothing
 abbrev pub new_member : {State Call Reply : Type 0} → State → ℕ → Membership State Call Reply
 new_member first seat = record {
   seat = seat;
@@ -29,11 +29,11 @@ new_member first seat = record {
   answers = [];
 }
 
--- a member as a caller: its accepted calls have no limit, and its calls lose no exchanges
+-- a member as a caller: it has no limit of accepted calls, and its calls lose no compare-exchange
 abbrev pub member_caller : ℕ → Caller
 member_caller seat = record { seat = seat; tries = 0; per_seat = 2 ^ 64; alone = false }
 
--- an answer of a member as an answer of an object: no reply adds no call, like out of memory
+-- an answer of a member as one of an object: `NoReply` counts as out of memory, since neither adds a call
 abbrev pub as_answer : {Reply : Type 0} → Result Reply NoReply → Result Reply Fault
 as_answer (Ok reply) = Ok reply
 as_answer (Err why) = Err object_fault.Memory
@@ -47,11 +47,11 @@ module _ {State Call Reply : Type 0} where
   abbrev pub under_way : Membership State Call Reply → List Call
   under_way member = calls_asked (take member.sent member.waiting)
 
-  -- the member after it has stopped reading: the requests of its entry wait like all others
+  -- the member after it has stopped reading: the requests of its entry under way wait like all others
   abbrev pub stopped : Membership State Call Reply → Membership State Call Reply
   stopped member = record member { is_stopped = true; sent = 0 }
 
-  -- the member after none of the requests of its entry got a reply
+  -- the member once all requests of its entry under way are answered with no reply, for this reason
   abbrev pub without_reply : NoReply → Membership State Call Reply → Membership State Call Reply
   without_reply why member = record member {
     waiting = drop member.sent member.waiting;

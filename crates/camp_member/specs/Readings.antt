@@ -22,7 +22,8 @@ IsReadFault old index found (OutOfOrder next) = (next ≡ old.index) × (index �
 IsReadFault old index found (Foreign at) = (at ≡ old.index) × (at ≡ index) × IsForeign (number_in old.numbers) found
 
 module _ {State Call Reply : Type 0} (object : Sequential State Call Reply) where
-  -- what a reader has after it has read a log
+  -- a reader has read a log: the log is readable; the reader has the index after it, its lawful part, and the last
+  -- number of each seat
   pub record IsReadingOf (log : List (Option (Tagged Call))) (reading : Reading State Call) : Type 0 where
     pub readable : IsReadable log
     pub index : reading.index ≡ length log
@@ -42,7 +43,7 @@ module _ {State Call Reply : Type 0} (object : Sequential State Call Reply) wher
     pub history : new.history ≡ old.history
     pub numbers : new.numbers ≡ old.numbers
 
-  -- what comes next in the log is read
+  -- the entry that comes next in the log is read: its calls are decided, or it is skipped as a repetition
   pub record ReadsEntry (old : Reading State Call) (entry : Tagged Call) (replies : List Reply) (new : Reading State Call) : Type 0 where
     pub first : new.first ≡ old.first
     pub index : new.index ≡ old.index + 1

@@ -1,4 +1,4 @@
--- What the answers of a member say of the history.
+-- What the answers of a member say of the history that it reads.
 use Rattle.std.specs.Prelude.{◌≡◌, ◌≤◌, ℕ, Bool, false, List, [], ◌∷◌, ◌++◌, length, map, Result, Ok, Err, IfOk, IfErr, is_some, if◌then◌else◌}
 use Rattle.camp_object.specs.Objects.{Sequential}
 use Rattle.camp_object.specs.Histories.{IsBeginning, own}
@@ -20,8 +20,8 @@ abbrev pub answers_in : {Call Reply : Type 0} → List (AnsweredRequest Call Rep
 answers_in told = map (λ one. (one.request.id, one.answer)) told
 
 module _ {State Call Reply : Type 0} (object : Sequential State Call Reply) where
-  -- a request of a seat is answered at this history, and its answer is right as `Ask` says. The history has at least as
-  -- many calls as the request waits for, or there is no reply, for an allowed reason
+  -- a request of a seat is answered at this history, as `Ask` allows; either the history has at least as many calls as
+  -- the request waits for, or there is no reply, for an allowed reason
   pub record IsAnsweredAt (may : Request Call → NoReply → Type 0) (seat : ℕ) (seen : List (ℕ × Call)) (one : AnsweredRequest Call Reply) : Type 0 where
     pub asks : Ask object (member_caller seat) seen one.request.call (as_answer one.answer) one.history
     pub at_least : IfOk one.answer (λ _. one.request.at_least ≤ length one.history)

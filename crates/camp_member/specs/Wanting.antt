@@ -25,13 +25,14 @@ module _ {State Call Reply : Type 0} (object : Sequential State Call Reply) wher
   abbrev pub IsWaiting : List (ℕ × Call) → Request Call → Type 0
   IsWaiting history request = length history < request.at_least
 
-  -- a member gives no reply only when it has stopped, and only to a request that waits for more accepted calls or whose
-  -- call would be accepted; so every question is answered at what was read
+  -- a reason why a request gets no reply: the member has stopped, and the request waits for more accepted calls or its
+  -- call would be accepted
   abbrev pub IsStopped : Membership State Call Reply → Request Call → NoReply → Type 0
   IsStopped member request why =
       (why ≡ Stopped) × (member.is_stopped ≡ true) × (IsWaiting member.reading.history request ⊎ IsAccepted object member.reading.history request.call)
 
-  -- the answer to a request at what was read; none if the request has to wait for more calls, or to be appended
+  -- the answer to a request, given what the member has read; none if the request has to wait for more calls, or to be
+  -- appended
   abbrev pub IsAnswerTo : Membership State Call Reply → Request Call → Option (Result Reply NoReply) → Type 0
   IsAnswerTo member request None =
       (member.is_stopped ≡ false) × (IsWaiting member.reading.history request ⊎ IsAccepted object member.reading.history request.call)
@@ -39,12 +40,13 @@ module _ {State Call Reply : Type 0} (object : Sequential State Call Reply) wher
       (request.at_least ≤ length member.reading.history) × IsAnswered object member.reading.history request.call reply
   IsAnswerTo member request (Some (Err why)) = IsStopped member request why
 
-  -- a member without an entry under way can't answer its first request at what was read
+  -- a member without an entry under way can't answer its first request from what was read
   abbrev pub IsAtRest : Membership State Call Reply → Type 0
   IsAtRest member =
       member.sent ≡ 0 → (request : Request Call) (rest : List (Request Call)) → member.waiting ≡ request ∷ rest → IsAnswerTo member request None
 
-  -- requests for one entry: 1 to 256 of them, which write and wait for no more calls than were read
+  -- requests that fit in one entry: 1 to 256 of them, all of calls that write, none of which waits for more calls than
+  -- were read
   pub record FitsEntry (history : List (ℕ × Call)) (requests : List (Request Call)) : Type 0 where
     pub some : 0 < length requests
     pub few : length requests ≤ most_calls_of_entry
@@ -96,7 +98,7 @@ module _ {State Call Reply : Type 0} (object : Sequential State Call Reply) wher
     pub given : (new.answers, new.waiting) ≡ given old.answers old.waiting replies
     pub sent : new.sent ≡ 0
 
-  -- an entry of another member is found, or a repetition
+  -- an entry of another member is found, or one whose tag counted before
   pub record FindsOther (old : Membership State Call Reply) (entry : Tagged Call) (new : Membership State Call Reply) : Type 0 where
     pub other : ¬ (IsOwn old entry)
     pub answers : new.answers ≡ old.answers
@@ -117,7 +119,7 @@ module _ {State Call Reply : Type 0} (object : Sequential State Call Reply) wher
   StopsWhenForeign (OutOfOrder next) old new = new ≡ old
   StopsWhenForeign (Foreign at) old new = new ≡ stopped old
 
-  -- what is at an index of the log is found: it was read before, or is read now, or stops the member
+  -- a member finds what is at an index of the log: it has read it before, or reads it now, or is stopped by it
   abbrev pub FindsAt : Membership State Call Reply → ℕ → Option (Tagged Call) → Result (Unit {0}) ReadFault → Membership State Call Reply → Type 0
   FindsAt old index found (Ok done) new =
       ((index < old.reading.index) × (new ≡ old))

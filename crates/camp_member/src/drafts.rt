@@ -7,8 +7,8 @@ use camp_object::{Decided, Object};
 use std::alloc::{AllocError, Global};
 use std::marker::Model;
 
-/// The decisions on calls of one seat: the state after the accepted calls if there are any, these calls, and the reply
-/// to each call.
+/// The decisions on calls of one seat: the state after the accepted calls if there are any, the accepted calls, and the
+/// reply to each call.
 #[derive(Drop)]
 pub(crate) struct Draft<State: Object> {
     pub(crate) next: Option<State>,
@@ -78,7 +78,8 @@ impl<State: Object> Draft<State> {
     }
 }
 
-// Returns the position after this number of calls.
+// Returns the position of the call after `before` calls and `more` others, `before + more + 1`; `None` if that
+// overflows.
 fn position_after(before: u64, more: usize) -> Option<u64>
     ensures { IfSome result (λ position. position ≡ before + more + 1) }
 {

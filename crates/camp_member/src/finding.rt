@@ -11,9 +11,10 @@ use camp_object::Object;
 use std::alloc::Global;
 
 impl<State: Object> Member<State> {
-    /// Reads what was found at an index of the log, in order: an entry, or `None` if there is none in it. Skips what
-    /// was read before. Answers the requests of the entry under way if it is this one. What is foreign, or an entry of
-    /// another process with this seat, stops the member. If memory runs out, the member is unchanged.
+    /// Reads what was found at an index of the log, to be called for one index after the other: an entry, or `None` if
+    /// there is no entry there. Skips an index that was read before. Answers the requests of the entry under way if it
+    /// is the one found. A foreign entry, or one of another process with this seat, stops the member. If memory runs
+    /// out, the member is unchanged.
     pub fn found(
         &mut self,
         alloc: Global,
@@ -132,7 +133,7 @@ impl<State: Object> Member<State> {
         }
     }
 
-    // Stops reading if what was found is foreign.
+    // Stops reading if the fault says that what was found is foreign.
     fn stop_at(&mut self, fault: ReadFault)
         ensures { StopsWhenForeign State.object fault self.old self.new }
     {

@@ -23,7 +23,7 @@ pub fn readers_share_one_history<State: Object>()
     ensures law { (first : State) → ReadersShareOneHistory (begun State.object first) }
 {}
 
-/// A member has read the lawful part of its log: each entry that it finds is read after those before it.
+/// A member has read the lawful part of its log: it reads each entry that it finds after those before it.
 pub fn members_follow_the_log<State: Object>()
     ensures law { (first : State) → FindsOn (begun State.object first) }
 {}

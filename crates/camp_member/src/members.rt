@@ -1,4 +1,4 @@
-//! A member of a log: it asks calls over the log, without IO of its own.
+//! A member of a log: it executes calls over the log, without IO of its own.
 ghost use Rattle.std.specs.Prelude.{◌≡◌, ◌≤◌, ◌↔◌, ◌++◌, [], ◌∷◌, false, length, OnOk, OnErr, IfOk, IsTrue, MatchOption};
 ghost use Rattle.camp_object.specs.Histories.{IsLegal, replay};
 ghost use Rattle.camp_object.specs.Objects.{IsFirst, begun};
@@ -8,8 +8,8 @@ use camp_object::Object;
 use std::alloc::{AllocError, Global};
 use std::marker::Model;
 
-/// A process that shares a log with others: it says what to read and append, and is given the outcomes. Contracts see
-/// it as `Membership`.
+/// A process that shares a log with others: it says what to read and append, and is given the results. Contracts see it
+/// as `Membership`.
 #[derive(Drop)]
 pub struct Member<State: Object> {
     pub(crate) seat: u128,
@@ -45,8 +45,8 @@ impl<State: Object> Model for Member<State> {
 impl<State: Object> Member<State> {
     ghost use Rattle.camp_member.specs.Members.{new_member};
 
-    /// Makes a member of a seat that no other process has. If two had one seat, each would take the other's entry for
-    /// its own if number and calls were equal. Its history begins with this initial state.
+    /// Makes a member at a seat that no other process has; its history begins with this initial state. If two processes
+    /// had the same seat, each would take an entry of the other for its own if it had the same number and calls.
     pub fn new(alloc: Global, first: State, seat: u128) -> Member<State>
         requires { IsFirst State.object first }
         ensures exact { result ≡ new_member first seat }
@@ -68,8 +68,8 @@ impl<State: Object> Member<State> {
         &self.reader
     }
 
-    /// True if it has found what is foreign, or an entry of another process with its seat. It then answers from what it
-    /// has read, and appends nothing.
+    /// True if it has found a foreign entry, or one of another process with its seat. It then answers from what it has
+    /// read, and appends nothing.
     pub fn is_stopped(&self) -> bool
         ensures exact { result ≡ self.now.is_stopped }
     {
@@ -91,7 +91,7 @@ impl<State: Object> Member<State> {
         &self.answers
     }
 
-    /// Takes another seat, which nobody else has, unless a request waits. True if it did.
+    /// Changes its seat to another one, which nobody else has, unless a request waits. True if it did.
     pub fn take_seat(&mut self, seat: u128) -> bool
         ensures takes { IsTrue result → self.new ≡ record self.old { seat = seat } }
         ensures stays { result ≡ false → self.new ≡ self.old }

@@ -11,7 +11,7 @@ use camp_object::{Decided, Object};
 use std::alloc::{AllocError, Global};
 use std::marker::Model;
 
-/// A state, and the calls of a log that led to it. Contracts see it as `Reading`.
+/// A reader of a log: the state that the calls read so far lead to, and these calls. Contracts see it as `Reading`.
 #[derive(Drop)]
 pub struct Reader<State: Object> {
     index: usize,
@@ -26,7 +26,7 @@ enum Standing {
     New,
     /// It is a repetition: an entry with its tag counted before.
     Repeated,
-    /// It is neither.
+    /// It neither counts nor is a repetition.
     Foreign,
 }
 
@@ -105,7 +105,7 @@ impl<State: Object> Reader<State> {
         number_of(&self.numbers, seat)
     }
 
-    /// Returns the answer to a call at what was read; `None` if the call would be accepted there.
+    /// Returns the reply to a call in the state after what was read; `None` if the call would be accepted in it.
     pub fn answer_to(&self, call: &State::Call) -> Result<Option<State::Reply>, AllocError>
         ensures answers { IfOk result (λ answer. MatchOption answer
             (IsAccepted (begun State.object self.now.first) self.now.history call.now)
@@ -121,8 +121,9 @@ impl<State: Object> Reader<State> {
         }
     }
 
-    /// Reads what is at an index of the log: an entry, or `None` if there is none in it. Returns the reply to each call
-    /// of an entry that counts, and nothing for one whose tag counted before. After a fault the reader is unchanged.
+    /// Reads what is at the next index of the log: an entry, or `None` if there is no entry there. Returns the replies
+    /// to the calls of an entry that counts, and no reply for an entry whose tag counted before. After a fault the
+    /// reader is unchanged.
     pub fn take(
         &mut self,
         alloc: Global,

@@ -2,7 +2,8 @@
 use crate::Entry;
 use thiserror::Error;
 
-/// A call with a number that the caller chooses, and the least number of accepted calls at which it is to be answered.
+/// A call, a number that the caller chooses for it, and how many accepted calls the member must at least have read
+/// before it answers.
 #[derive(Drop)]
 pub struct Request<Call: Drop> {
     pub id: u64,
@@ -31,7 +32,7 @@ pub enum Want<Call: Drop> {
     Nothing,
     /// To read the log from this index on.
     Read { from: usize },
-    /// To append this entry under its tag, unless there is one with that tag, and to read the log up to it. The entry
-    /// is wanted until it is found or refused.
+    /// To append this entry, unless the log has one with the same tag, and to read the log up to it. The entry is
+    /// wanted until it is found or refused.
     Append { entry: Entry<Call> },
 }

@@ -17,7 +17,7 @@ use std::alloc::{AllocError, Global};
 pub(crate) enum Next<Reply: Drop> {
     /// To give this answer to the first request.
     Answers(Result<Reply, NoReply>),
-    /// Nothing without the log.
+    /// To wait until the log gives it what it needs.
     Rests(Rest),
 }
 
@@ -39,8 +39,8 @@ impl<State: Object> Member<State> {
     ghost use Rattle.camp_member.specs.declared.wanting.Next.TheVariants as next;
     ghost use Rattle.camp_member.specs.declared.wanting.Rest.TheVariants as rest;
 
-    /// Answers the first requests that can be answered at what was read. If memory runs out, the entry under way stays,
-    /// and so do the answers already given.
+    /// Answers requests, from the first on, as long as what was read of the log is enough for that. If memory runs out,
+    /// the entry under way stays, and so do the answers already given.
     pub fn answer_ready(&mut self) -> Result<(), AllocError>
         ensures rests { IfOk result (λ _. IsAtRest (begun State.object self.new.reading.first) self.new) }
         ensures stays { 0 < self.old.sent → self.new ≡ self.old }
@@ -53,10 +53,10 @@ impl<State: Object> Member<State> {
         Ok(())
     }
 
-    /// Answers the first requests that can be answered at what was read, as `answer_ready` does, and returns what the
-    /// member wants of the log. A new entry gets at most `most` calls (one if that is 0), and at most 256. An entry
-    /// under way is wanted unchanged until it is found or refused. If memory runs out, the entry under way stays, and
-    /// so do the answers already given.
+    /// Answers requests from what was read, as `answer_ready` does, and returns what the member wants of the log. A new
+    /// entry gets at most `most` calls (one if that is 0), and at most 256. An entry under way is wanted unchanged
+    /// until it is found or refused. If memory runs out, the entry under way stays, and so do the answers already
+    /// given.
     pub fn want(&mut self, alloc: Global, most: usize) -> Result<Want<State::Call>, AllocError>
         ensures few { self.old.sent ≡ 0 → self.new.sent ≤ (if most == 0 then 1 else most) }
         ensures rests { IsAtRest (begun State.object self.old.reading.first) self.old → self.new.waiting ≡ self.old.waiting }
@@ -80,7 +80,7 @@ impl<State: Object> Member<State> {
         }
     }
 
-    // Answers the first requests that can be answered at what was read.
+    // Answers requests, from the first on, as long as what was read is enough; returns what the next one needs.
     fn settle(&mut self) -> Result<Rest, AllocError>
         ensures rest { IfOk result (IsRest (begun State.object self.new.reading.first) self.new) }
         ensures rests { IsAtRest (begun State.object self.old.reading.first) self.old → self.new ≡ self.old }
@@ -129,7 +129,7 @@ impl<State: Object> Member<State> {
         Ok(())
     }
 
-    // Returns the answer to a request at what was read; `None` if the request has to wait for more calls, or to be
+    // Returns the answer to a request, given what was read; `None` if the request has to wait for more calls, or to be
     // appended.
     fn answer_to(
         &self,
@@ -158,7 +158,7 @@ impl<State: Object> Member<State> {
         }
     }
 
-    // Returns the number of first requests that go into an entry.
+    // Returns how many requests, from the first on, go into the next entry.
     fn batch(&self, limit: usize) -> usize
         requires some { 0 < limit }
         requires sends { IsRest (begun State.object self.now.reading.first) self.now rest.Sends }
@@ -191,8 +191,8 @@ impl<State: Object> Member<State> {
         })
     }
 
-    /// Reports that the log has refused the entry under way, which will never be in it: its requests get no reply, for
-    /// that reason. If memory runs out, the member is unchanged.
+    /// Answers the requests of the entry under way with no reply, because the log has refused that entry and will never
+    /// contain it. If memory runs out, the member is unchanged.
     pub fn refused(&mut self) -> Result<(), AllocError>
         ensures refused { OnOk result (self.new ≡ without_reply no_reply.Refused self.old) }
         ensures stays { OnErr result (self.new ≡ self.old) }
@@ -203,8 +203,8 @@ impl<State: Object> Member<State> {
         self.give_up_first(count, NoReply::Refused)
     }
 
-    /// Reports that the log ends at an index. If the member has read all of it and the first request waits for more
-    /// accepted calls, that request gets no reply. If memory runs out, the member is unchanged.
+    /// Answers the first request with no reply if the log ends at `index`, the member has read all of it, and the
+    /// request waits for more accepted calls. If memory runs out, the member is unchanged.
     pub fn ended(&mut self, index: usize) -> Result<(), AllocError>
         ensures ends { OnOk result (AfterEnd (begun State.object self.old.reading.first) self.old index self.new) }
         ensures stays { OnErr result (self.new ≡ self.old) }
@@ -233,7 +233,7 @@ impl<State: Object> Member<State> {
         true
     }
 
-    // Answers the first requests with no reply; there is then no entry under way.
+    // Answers the first `count` requests with no reply, for this reason; there is then no entry under way.
     fn give_up_first(&mut self, count: usize, why: NoReply) -> Result<(), AllocError>
         requires { count ≤ length self.old.waiting }
         ensures gives { OnOk result (self.new ≡ without_reply why (record self.old { sent = count })) }
@@ -286,7 +286,7 @@ fn copy_calls<State: Object>(
     Ok(calls)
 }
 
-// Answers the first requests with no reply.
+// Answers the first `count` requests with no reply, for this reason.
 fn give_up<Call: Drop, Reply: Drop>(
     waiting: &mut Vec<Request<Call>>,
     answers: &mut Vec<(u64, Result<Reply, NoReply>)>,

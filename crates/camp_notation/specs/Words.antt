@@ -10,7 +10,7 @@ use Rattle.camp_base.specs.Signs.{is_between, is_capital_letter, is_printing, is
 abbrev pub is_plain_byte : ℕ → Bool
 is_plain_byte byte = is_between hyphen digit_nine byte || (is_capital_letter byte || (is_small_letter byte || byte == underscore))
 
--- bytes are a word without quotes: at least one, all of them such bytes
+-- bytes are a word without quotes: at least one byte, and none that needs quotes
 abbrev pub is_plain : List ℕ → Bool
 is_plain bytes = not (length bytes == 0) && list_all is_plain_byte bytes
 

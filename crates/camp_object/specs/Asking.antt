@@ -1,4 +1,5 @@
--- What an answer says of the history: of the calls that its caller had seen, and of those that it has seen now.
+-- What an answer says of the history: of the calls that its caller had seen before the call, and of those that it has
+-- seen with the answer.
 use Rattle.std.specs.Prelude.{◌≡◌, ℕ, zero, suc, ◌<◌, Bool, true, false, List, [], ◌∷◌, ◌++◌, length}
 use Rattle.std.specs.Prelude.{Result, Ok, Err, MatchOption}
 use Rattle.camp_object.specs.Objects.{Sequential}

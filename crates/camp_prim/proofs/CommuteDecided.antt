@@ -1,5 +1,5 @@
 -- Two primitives commute or do not.
-use Rattle.camp_prim.proofs.Words.{◌≡◌, ℕ, ◌+◌, ◌-◌, ◌≤◌, ◌^◌, ◌<◌, ◌⊎◌, length, Ordering, refl, sym, ap, ◌∙◌, subst, inl, inr, arith, cases_lt, nat_list_cmp_total, IsTotalOrder, tied_itself, IsAntisymmetric, slice_cmp-IsAntisymmetric, nat_cmp-IsAntisymmetric, Less, Equal, Greater, InRange, Edit, IsInRange, label_of, key_of, SameKey, path_of, at_line, ChangeInRange, ComesTo, Commute, Primitive, Add, Remove, Hunk, Named}
+use Rattle.camp_prim.proofs.Words.{◌≡◌, ℕ, ◌+◌, ◌-◌, ◌≤◌, ◌^◌, ◌<◌, ◌⊎◌, length, Ordering, refl, sym, ap, ◌∙◌, subst, inl, inr, arith, cases_lt, nat_list_cmp_total, IsTotalOrder, tied_itself, IsAntisymmetric, slice_cmp-IsAntisymmetric, nat_cmp-IsAntisymmetric, Less, Equal, Greater, InRange, Edit, IsInRange, label_of, key_of, SameKey, path_of, at_line, CommutesInRange, IsTargetLine, Commute, Primitive, Add, Remove, Hunk, Named}
 use Rattle.camp_prim.proofs.LabelOrder.{key_total, key_ties}
 use Rattle.camp_prim.proofs.Moving.{comes_above, comes_below, no_place}
 
@@ -48,7 +48,7 @@ primitive_in_range_or_not (Remove path) = inl tt
 primitive_in_range_or_not (Hunk hunk) = in_range_or_not hunk
 
 -- the line to which a hunk below another moves, or none
-comes_or_not : (upper takes leaves : ℕ) (lower : Edit) → Decided ((line : ℕ) × ComesTo upper takes leaves lower line)
+comes_or_not : (upper takes leaves : ℕ) (lower : Edit) → Decided ((line : ℕ) × IsTargetLine upper takes leaves lower line)
 comes_or_not upper takes leaves lower = elim (cases_lt lower.line (upper + leaves)) [
   | inl lt ↦ inr (λ c. let stands : lower.line ≡ upper + leaves + c.1.gap = c.1.stands in absurd (omega arith))
   | inr le ↦
@@ -63,7 +63,7 @@ comes_or_not upper takes leaves lower = elim (cases_lt lower.line (upper + leave
 
 -- the two primitives after the commute, in range
 abbrev Change : Primitive → Primitive → Type 0
-Change p q = (q' : Primitive) × (p' : Primitive) × ChangeInRange p q q' p'
+Change p q = (q' : Primitive) × (p' : Primitive) × CommutesInRange p q q' p'
 
 hunks_change_or_not : (h k : Edit) → h.path ≡ k.path → IsInRange h → IsInRange k → Decided (Change (Hunk h) (Hunk k))
 hunks_change_or_not h k same r s = elim (comes_or_not h.line (length h.old) (length h.new) k) [

@@ -1,18 +1,18 @@
 -- The laws of commuting two primitives.
-use Rattle.camp_prim.proofs.Words.{◌≡◌, ℕ, ◌+◌, length, refl, sym, ap, ◌∙◌, inl, inr, arith, Edit, IsInRange, flipped, inverted, inverse_of, InRange, label_of, key_of, opposite, SameKey, OwnInverse, Inverse, Square, SameEffect, CommuteLaws, path_of, at_line, MayPass, Commute, PrimitivesCommute, CommuteAnywhere, Primitive, Add, Remove, Hunk, Named}
+use Rattle.camp_prim.proofs.Words.{◌≡◌, ℕ, ◌+◌, length, refl, sym, ap, ◌∙◌, inl, inr, arith, Edit, IsInRange, flipped, inverted, inverse_of, InRange, label_of, key_of, opposite, SameKey, OwnInverse, Inverse, Square, SameEffect, CommuteLaws, path_of, at_line, GapAllowsCommute, Commute, PrimitivesCommute, CommuteAnywhere, Primitive, Add, Remove, Hunk, Named}
 use Rattle.camp_prim.proofs.CommuteEffect.{swaps_lead}
 use Rattle.camp_prim.proofs.CommuteUnique.{hunk_below, hunk_above}
 use Rattle.camp_prim.proofs.Inverses.{path_of-inverted}
 
-passes_back : (gap : ℕ) (h k : Edit) → MayPass gap h k → MayPass gap k h
+passes_back : (gap : ℕ) (h k : Edit) → GapAllowsCommute gap h k → GapAllowsCommute gap k h
 passes_back gap h k (inl apart) = inl apart
 passes_back gap h k (inr full) = inr (full.2, full.3, full.0, full.1)
 
-passes_flipped : (gap : ℕ) (h k : Edit) → MayPass gap h k → MayPass gap (flipped h) k
+passes_flipped : (gap : ℕ) (h k : Edit) → GapAllowsCommute gap h k → GapAllowsCommute gap (flipped h) k
 passes_flipped gap h k (inl apart) = inl apart
 passes_flipped gap h k (inr full) = inr (full.1, full.0, full.2, full.3)
 
-passes_both_flipped : (gap : ℕ) (h k : Edit) → MayPass gap h k → MayPass gap (flipped k) (flipped h)
+passes_both_flipped : (gap : ℕ) (h k : Edit) → GapAllowsCommute gap h k → GapAllowsCommute gap (flipped k) (flipped h)
 passes_both_flipped gap h k (inl apart) = inl apart
 passes_both_flipped gap h k (inr full) = inr (full.3, full.2, full.1, full.0)
 

@@ -1,5 +1,5 @@
 -- The result of commuting two primitives is unique.
-use Rattle.camp_prim.proofs.Words.{◌≡◌, ◌+◌, true, false, None, Some, length, refl, sym, ap, ◌∙◌, inl, inr, arith, Edit, label_of, BothCommuteAlike, CommuteIsUnique, path_of, at_line, CommutesBelow, CommutesAbove, PrimitivesCommute, Primitive, Hunk, Named, ℕ, MayPass}
+use Rattle.camp_prim.proofs.Words.{◌≡◌, ◌+◌, true, false, None, Some, length, refl, sym, ap, ◌∙◌, inl, inr, arith, Edit, label_of, BothCommuteAlike, CommuteIsUnique, path_of, at_line, CommutesBelow, CommutesAbove, PrimitivesCommute, Primitive, Hunk, Named, ℕ, GapAllowsCommute}
 
 pub same_named : (a b : Named) → label_of a ≡ label_of b → a.prim ≡ b.prim → a ≡ b
 same_named a b labels prims = λ i. record { name = (labels i).name; place = (labels i).place; inverse = (labels i).inverse; prim = prims i }
@@ -12,10 +12,10 @@ pub one_path : (p q : Primitive) (h k : Edit) → p ≡ Hunk h → q ≡ Hunk k 
 one_path p q h k is_p is_q same = ap path_of is_p ∙ same ∙ sym (ap path_of is_q)
 
 -- two hunks of one path commute if one is below the other
-pub hunk_below : {p q q' p' : Primitive} (h k : Edit) (gap : ℕ) → p ≡ Hunk h → q ≡ Hunk k → h.path ≡ k.path → k.line ≡ h.line + length h.new + gap → MayPass gap h k → q' ≡ Hunk (at_line (h.line + length h.old + gap) k) → p' ≡ p → PrimitivesCommute p q q' p'
+pub hunk_below : {p q q' p' : Primitive} (h k : Edit) (gap : ℕ) → p ≡ Hunk h → q ≡ Hunk k → h.path ≡ k.path → k.line ≡ h.line + length h.new + gap → GapAllowsCommute gap h k → q' ≡ Hunk (at_line (h.line + length h.old + gap) k) → p' ≡ p → PrimitivesCommute p q q' p'
 hunk_below h k gap is_p is_q path stands passes second first = inr (inl (record { h = h; k = k; gap = gap; is_p = is_p; is_q = is_q; path = path; stands = stands; passes = passes; second = second; first = first }))
 
-pub hunk_above : {p q q' p' : Primitive} (h k : Edit) (gap : ℕ) → p ≡ Hunk h → q ≡ Hunk k → h.path ≡ k.path → h.line ≡ k.line + length k.old + gap → MayPass gap h k → q' ≡ q → p' ≡ Hunk (at_line (k.line + length k.new + gap) h) → PrimitivesCommute p q q' p'
+pub hunk_above : {p q q' p' : Primitive} (h k : Edit) (gap : ℕ) → p ≡ Hunk h → q ≡ Hunk k → h.path ≡ k.path → h.line ≡ k.line + length k.old + gap → GapAllowsCommute gap h k → q' ≡ q → p' ≡ Hunk (at_line (k.line + length k.new + gap) h) → PrimitivesCommute p q q' p'
 hunk_above h k gap is_p is_q path stands passes second first = inr (inr (record { h = h; k = k; gap = gap; is_p = is_p; is_q = is_q; path = path; stands = stands; passes = passes; second = second; first = first }))
 
 -- two hunks can't each be below the other

@@ -15,10 +15,10 @@ pub use Rattle.std.specs.declared.cmp.Ordering.TheVariants.{Equal, Greater, Less
 pub use Rattle.camp_prim.specs.Hunks.{Edit, IsInRange}
 pub use Rattle.camp_prim.specs.Labels.{SameKey, key_cmp, key_of, label_cmp, label_of, opposite}
 pub use Rattle.camp_prim.specs.Laws.{BothCommuteAlike, Inverse, OwnInverse, SameEffect, SixOrders, Square, CommuteIsUnique, CommuteLaws}
-pub use Rattle.camp_prim.specs.Commuting.{PrimitivesCommute, MayPass, Commute, CommuteAnywhere, CommutesAbove, CommutesBelow, CommutesOnTwoPaths, at_line, path_of}
+pub use Rattle.camp_prim.specs.Commuting.{PrimitivesCommute, GapAllowsCommute, Commute, CommuteAnywhere, CommutesAbove, CommutesBelow, CommutesOnTwoPaths, at_line, path_of}
 pub use Rattle.camp_prim.specs.declared.named.Named.{Named}
 pub use Rattle.camp_prim.specs.declared.primitives.Primitive.{Primitive}
 pub use Rattle.camp_prim.specs.declared.primitives.Primitive.TheVariants.{Add, Hunk, Remove}
 pub use Rattle.camp_base.specs.Answers.{Answers, FindsPair}
-pub use Rattle.camp_prim.specs.Inside.Targets.{ChangeInRange, ComesTo, moved, turned}
+pub use Rattle.camp_prim.specs.Inside.Targets.{CommutesInRange, IsTargetLine, moved, commuted_to_targets}
 pub use Rattle.camp_prim.specs.declared.commuting.Targets.{Targets}

@@ -18,8 +18,8 @@ abbrev pub at_line : ℕ → Edit → Edit
 at_line line hunk = record { path = hunk.path; line = line; old = hunk.old; new = hunk.new }
 
 -- two hunks with `gap` lines between them may commute: if `gap` is 0, only if no side of them is empty
-abbrev pub MayPass : ℕ → Edit → Edit → Type 0
-MayPass gap h k = (0 < gap) ⊎ ((0 < length h.old) × (0 < length h.new) × (0 < length k.old) × (0 < length k.new))
+abbrev pub GapAllowsCommute : ℕ → Edit → Edit → Type 0
+GapAllowsCommute gap h k = (0 < gap) ⊎ ((0 < length h.old) × (0 < length h.new) × (0 < length k.old) × (0 < length k.new))
 
 -- p q <-> q p, on two paths
 pub record CommutesOnTwoPaths (p q q' p' : Primitive) : Type 0 where
@@ -37,7 +37,7 @@ pub record CommutesBelow (p q q' p' : Primitive) : Type 0 where
   pub is_q : q ≡ Hunk k
   pub path : h.path ≡ k.path
   pub stands : k.line ≡ h.line + length h.new + gap
-  pub passes : MayPass gap h k
+  pub passes : GapAllowsCommute gap h k
   pub second : q' ≡ Hunk (at_line (h.line + length h.old + gap) k)
   pub first : p' ≡ p
 
@@ -51,7 +51,7 @@ pub record CommutesAbove (p q q' p' : Primitive) : Type 0 where
   pub is_q : q ≡ Hunk k
   pub path : h.path ≡ k.path
   pub stands : h.line ≡ k.line + length k.old + gap
-  pub passes : MayPass gap h k
+  pub passes : GapAllowsCommute gap h k
   pub second : q' ≡ q
   pub first : p' ≡ Hunk (at_line (k.line + length k.new + gap) h)
 
@@ -70,7 +70,7 @@ pub record CommuteAnywhere (p q q' p' : Named) : Type 0 where
   pub second : label_of q' ≡ label_of q
   pub first : label_of p' ≡ label_of p
 
--- p q <-> q' p': the same, and all four are in range
+-- p q <-> q' p': they commute by `CommuteAnywhere`, and all four are in range
 pub record Commute (p q q' p' : Named) : Type 0 where
   pub anywhere : CommuteAnywhere p q q' p'
   pub ranges : AreInRange p.prim q.prim q'.prim p'.prim

@@ -1,22 +1,23 @@
 //! The body of a hunk: its path and its two sides, without the line.
-ghost use Rattle.std.specs.Prelude.{◌≡◌, IfOk, length};
-ghost use Rattle.camp_prim.specs.Inside.BodyFields.{held_lines};
+ghost use Rattle.std.specs.Prelude.{◌≡◌, ◌==◌, [], ◌∷◌, ◌++◌, IfOk, OnOk, length};
+ghost use Rattle.camp_prim.specs.Inside.BodyFields.{side_lines};
 
 use camp_base::{Line, Path};
 use camp_share::{Share, Shared};
 use std::alloc::{AllocError, Global};
 use std::marker::Model;
-use std::slice;
+use std::{mem, slice};
 
 /// What a hunk does at whatever line it applies: replaces old lines by new ones in the file at a path.
 #[derive(Debug, Drop)]
 pub(crate) struct Body {
-    held: Held,
+    held: BodyStorage,
 }
 
-// A body keeps the vectors that it was given until it is shared or copied.
+// How the lines of a body are stored: in the vectors that it was given until it is shared or copied, and then reference
+// counted.
 #[derive(Debug, Drop)]
-enum Held {
+enum BodyStorage {
     Own(Vectors),
     Shared(Shared<Parts>),
 }
@@ -43,6 +44,53 @@ enum Side {
     Many(Vec<Line>),
 }
 
+/// The lines of one side of a hunk, in order. A side of at most one line does not allocate.
+#[derive(Debug, Drop)]
+pub struct SideLines {
+    side: Side,
+}
+
+impl Model for SideLines {
+    ghost use Rattle.std.specs.Prelude.{ℕ, List};
+    ghost use Rattle.camp_prim.specs.Inside.BodyFields.{side_lines};
+
+    ghost Value = { List (List ℕ) };
+
+    ghost view = { λ lines. side_lines lines.side };
+}
+
+impl SideLines {
+    /// Makes a side without lines; does not allocate.
+    pub fn new() -> SideLines
+        ensures exact { result ≡ [] }
+    {
+        SideLines { side: Side::Empty }
+    }
+
+    /// Returns the number of lines.
+    pub fn len(&self) -> usize
+        ensures exact { result ≡ length self.now }
+    {
+        self.side.len()
+    }
+
+    /// True if there is no line.
+    pub fn is_empty(&self) -> bool
+        ensures exact { result ≡ (length self.now == 0) }
+    {
+        self.len() == 0
+    }
+
+    /// Appends a line. The first does not allocate.
+    pub fn push(&mut self, alloc: Global, line: Line) -> Result<(), AllocError>
+        ensures exact { OnOk result (self.new ≡ self.old ++ line ∷ []) }
+    {
+        let side = mem::replace(&mut self.side, Side::Empty);
+        self.side = side.with(alloc, line)?;
+        Ok(())
+    }
+}
+
 impl Model for Body {
     ghost use Rattle.camp_prim.specs.Inside.Replacements.{Replacement};
     ghost use Rattle.camp_prim.specs.Inside.BodyFields.{replacement_of};
@@ -57,8 +105,24 @@ impl Body {
     pub(crate) fn own(path: Path, old: Vec<Line>, new: Vec<Line>) -> Body
         ensures { result ≡ record { path = path; old = old.items; new = new.items } }
     {
-        let held = Held::Own(Vectors { path, old, new });
+        let held = BodyStorage::Own(Vectors { path, old, new });
         Body { held }
+    }
+
+    /// Makes the reference-counted body of a path and two sides.
+    pub(crate) fn of_sides(
+        alloc: Global,
+        path: Path,
+        old: SideLines,
+        new: SideLines,
+    ) -> Result<Body, AllocError>
+        ensures { IfOk result (λ body. body ≡ record { path = path; old = old; new = new }) }
+    {
+        let (old, new) = (old.side, new.side);
+        let parts = Shared::new(alloc, Parts { path, old, new })?;
+        Ok(Body {
+            held: BodyStorage::Shared(parts),
+        })
     }
 
     /// Makes the body reference counted. If memory runs out, it is dropped.
@@ -66,9 +130,9 @@ impl Body {
         ensures { IfOk result (λ body. body ≡ self) }
     {
         match self.held {
-            Held::Own(own) => share_vectors(alloc, own),
-            Held::Shared(parts) => Ok(Body {
-                held: Held::Shared(parts),
+            BodyStorage::Own(own) => share_vectors(alloc, own),
+            BodyStorage::Shared(parts) => Ok(Body {
+                held: BodyStorage::Shared(parts),
             }),
         }
     }
@@ -78,8 +142,8 @@ impl Body {
         ensures { result.now ≡ self.now.path }
     {
         match &self.held {
-            Held::Own(own) => &own.path,
-            Held::Shared(parts) => &parts.path,
+            BodyStorage::Own(own) => &own.path,
+            BodyStorage::Shared(parts) => &parts.path,
         }
     }
 
@@ -88,8 +152,8 @@ impl Body {
         ensures { result.now ≡ self.now.old }
     {
         match &self.held {
-            Held::Own(own) => &own.old,
-            Held::Shared(parts) => parts.old.as_slice(),
+            BodyStorage::Own(own) => &own.old,
+            BodyStorage::Shared(parts) => parts.old.as_slice(),
         }
     }
 
@@ -98,8 +162,8 @@ impl Body {
         ensures { result.now ≡ self.now.new }
     {
         match &self.held {
-            Held::Own(own) => &own.new,
-            Held::Shared(parts) => parts.new.as_slice(),
+            BodyStorage::Own(own) => &own.new,
+            BodyStorage::Shared(parts) => parts.new.as_slice(),
         }
     }
 
@@ -108,8 +172,8 @@ impl Body {
         ensures { result ≡ length self.now.old }
     {
         match &self.held {
-            Held::Own(own) => own.old.len(),
-            Held::Shared(parts) => parts.old.len(),
+            BodyStorage::Own(own) => own.old.len(),
+            BodyStorage::Shared(parts) => parts.old.len(),
         }
     }
 
@@ -118,8 +182,8 @@ impl Body {
         ensures { result ≡ length self.now.new }
     {
         match &self.held {
-            Held::Own(own) => own.new.len(),
-            Held::Shared(parts) => parts.new.len(),
+            BodyStorage::Own(own) => own.new.len(),
+            BodyStorage::Shared(parts) => parts.new.len(),
         }
     }
 }
@@ -128,11 +192,11 @@ impl Share for Body {
     /// Makes a reference-counted copy. Allocates only if this body is not shared yet.
     fn share(&self) -> Result<Body, AllocError> {
         match &self.held {
-            Held::Own(own) => own.copy(),
-            Held::Shared(parts) => {
+            BodyStorage::Own(own) => own.copy(),
+            BodyStorage::Shared(parts) => {
                 let parts = parts.share()?;
                 Ok(Body {
-                    held: Held::Shared(parts),
+                    held: BodyStorage::Shared(parts),
                 })
             }
         }
@@ -159,7 +223,7 @@ fn share_vectors(alloc: Global, own: Vectors) -> Result<Body, AllocError>
     let (old, new) = (Side::of(old), Side::of(new));
     let parts = Shared::new(alloc, Parts { path, old, new })?;
     Ok(Body {
-        held: Held::Shared(parts),
+        held: BodyStorage::Shared(parts),
     })
 }
 
@@ -174,8 +238,26 @@ fn copy_lines(lines: &Vec<Line>) -> Result<Vec<Line>, AllocError>
 }
 
 impl Side {
+    fn with(self, alloc: Global, line: Line) -> Result<Side, AllocError>
+        ensures { IfOk result (λ side. side_lines side ≡ side_lines self ++ line ∷ []) }
+    {
+        match self {
+            Side::Empty => Ok(Side::One(line)),
+            Side::One(first) => {
+                let mut lines = Vec::with_capacity(alloc, 2)?;
+                lines.push(first)?;
+                lines.push(line)?;
+                Ok(Side::Many(lines))
+            }
+            Side::Many(mut lines) => {
+                lines.push(line)?;
+                Ok(Side::Many(lines))
+            }
+        }
+    }
+
     fn of(mut lines: Vec<Line>) -> Side
-        ensures { held_lines result ≡ lines.items }
+        ensures { side_lines result ≡ lines.items }
     {
         if lines.len() > 1 {
             return Side::Many(lines);
@@ -187,7 +269,7 @@ impl Side {
     }
 
     fn len(&self) -> usize
-        ensures { result ≡ length (held_lines self.now) }
+        ensures { result ≡ length (side_lines self.now) }
     {
         match self {
             Side::Empty => 0,
@@ -197,7 +279,7 @@ impl Side {
     }
 
     fn as_slice(&self) -> &[Line]
-        ensures { result.now ≡ held_lines self.now }
+        ensures { result.now ≡ side_lines self.now }
     {
         match self {
             Side::Empty => &[],

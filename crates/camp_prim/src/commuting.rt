@@ -4,7 +4,7 @@ ghost use Rattle.camp_base.specs.Answers.{Finds, FindsPair};
 ghost use Rattle.camp_base.specs.Limits.{greatest_reach};
 ghost use Rattle.camp_prim.specs.Hunks.{IsInRange};
 ghost use Rattle.camp_prim.specs.Laws.{BothCommuteAlike, CommuteIsUnique, CommuteLaws};
-ghost use Rattle.camp_prim.specs.Inside.Targets.{turned, ChangeInRange, ComesTo};
+ghost use Rattle.camp_prim.specs.Inside.Targets.{commuted_to_targets, CommutesInRange, IsTargetLine};
 ghost use Rattle.camp_prim.specs.Commuting.{Commute};
 
 use crate::{Hunk, Named, Primitive, commute_in_place, commutes};
@@ -54,7 +54,7 @@ pub(crate) struct Targets {
 }
 
 pub(crate) fn targets_of(p: &Primitive, q: &Primitive) -> Option<Targets>
-    ensures { FindsPair (ChangeInRange p.now q.now) (option_map (turned p.now q.now) result) }
+    ensures { FindsPair (CommutesInRange p.now q.now) (option_map (commuted_to_targets p.now q.now) result) }
 {
     if p.path() != q.path() {
         return Some(Targets {
@@ -75,8 +75,8 @@ fn hunk_targets(h: &Hunk, k: &Hunk) -> Option<Targets>
     requires path { h.now.path ≡ k.now.path }
     requires first { IsInRange h.now }
     requires second { IsInRange k.now }
-    ensures { FindsPair (ChangeInRange (Primitive.Hunk h.now) (Primitive.Hunk k.now))
-        (option_map (turned (Primitive.Hunk h.now) (Primitive.Hunk k.now)) result) }
+    ensures { FindsPair (CommutesInRange (Primitive.Hunk h.now) (Primitive.Hunk k.now))
+        (option_map (commuted_to_targets (Primitive.Hunk h.now) (Primitive.Hunk k.now)) result) }
 {
     if let Some(line) = line_below(h.line(), h.old_len(), h.new_len(), k) {
         return Some(Targets {
@@ -98,14 +98,14 @@ fn hunk_targets(h: &Hunk, k: &Hunk) -> Option<Targets>
 /// commute, or the line would be out of range.
 fn line_below(upper: u32, takes: usize, leaves: usize, lower: &Hunk) -> Option<u32>
     requires { upper + takes + leaves ≤ greatest_reach }
-    ensures { Finds (ComesTo upper takes leaves lower.now) result }
+    ensures { Finds (IsTargetLine upper takes leaves lower.now) result }
 {
     let gap = gap_between(upper as usize + leaves, lower.line() as usize)?;
     if gap == 0 && !are_full(takes, leaves, lower) {
         return None;
     }
     let line = upper + (takes + gap) as u32;
-    lower.can_stand_at(line).then_some(line)
+    lower.is_in_range_at(line).then_some(line)
 }
 
 /// Returns the number of lines between the end of the upper hunk's lines and a line; `None` if that line is among them.

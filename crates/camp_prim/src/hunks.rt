@@ -5,7 +5,7 @@ ghost use Rattle.camp_prim.specs.Effect.{flipped};
 ghost use Rattle.camp_prim.specs.Hunks.{IsInRange, hunk_of};
 ghost use Rattle.camp_prim.specs.Commuting.{at_line};
 
-use crate::bodies::Body;
+use crate::bodies::{Body, SideLines};
 use camp_base::{Line, Path};
 use camp_share::Share;
 use std::alloc::{AllocError, Global};
@@ -49,6 +49,28 @@ impl Hunk {
             line,
             flipped: false,
         })
+    }
+
+    pub(crate) fn of_sides(
+        alloc: Global,
+        path: Path,
+        line: u32,
+        old: SideLines,
+        new: SideLines,
+    ) -> Result<Option<Hunk>, AllocError>
+        ensures { IfOk result (λ found. MatchOption found (¬ (IsInRange (hunk_of path line old new)))
+            (λ hunk. IsInRange (hunk_of path line old new) × (hunk ≡ hunk_of path line old new))) }
+    {
+        if !is_in_range(line, old.len(), new.len()) {
+            return Ok(None);
+        }
+        let body = Body::of_sides(alloc, path, old, new)?;
+        let flipped = false;
+        Ok(Some(Hunk {
+            body,
+            line,
+            flipped,
+        }))
     }
 
     /// Makes the lines reference counted, so that copies do not allocate. If memory runs out, the hunk is
@@ -131,7 +153,7 @@ impl Hunk {
         ensures exact { IfOk result (λ found. MatchOption found (¬ (IsInRange (at_line line self.now))) (λ hunk. IsInRange (at_line line self.now) × (hunk ≡ at_line line self.now))) }
         ensures memory { IfErr result (λ error. IsInRange (at_line line self.now)) }
     {
-        if !self.can_stand_at(line) {
+        if !self.is_in_range_at(line) {
             return Ok(None);
         }
         let mut moved = self.try_clone()?;
@@ -156,7 +178,7 @@ impl Hunk {
     }
 
     /// True if the hunk is in range at another line.
-    pub(crate) fn can_stand_at(&self, line: u32) -> bool
+    pub(crate) fn is_in_range_at(&self, line: u32) -> bool
         ensures { IsTrue result ↔ IsInRange (at_line line self.now) }
     {
         is_in_range(line, self.old_len(), self.new_len())

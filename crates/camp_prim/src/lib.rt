@@ -12,6 +12,7 @@ mod neighbours;
 mod primitives;
 mod stays;
 
+pub use bodies::SideLines;
 pub use commuting::{both_commute_alike, commute, commute_has_laws, commute_is_unique};
 pub use effect::{applied_is_applies, inverse_leads_back};
 pub use hunks::Hunk;
@@ -19,4 +20,4 @@ pub use labels::{Key, Label, has_less_label, have_same_key, keys_are_ordered, la
 pub use named::Named;
 pub use neighbours::commute_in_place;
 pub use primitives::Primitive;
-pub use stays::{commutes, stay};
+pub use stays::{commutes, commutes_unchanged};

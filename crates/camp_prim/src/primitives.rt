@@ -5,7 +5,7 @@ ghost use Rattle.camp_prim.specs.Effect.{Applies, InRange, inverted};
 ghost use Rattle.camp_prim.specs.Commuting.{path_of};
 ghost use Rattle.camp_prim.specs.Hunks.{IsInRange, hunk_of};
 
-use crate::Hunk;
+use crate::{Hunk, SideLines};
 use camp_base::{Apply, Line, Path, Tree};
 use std::alloc::{AllocError, Global};
 
@@ -30,6 +30,23 @@ impl Primitive {
     {
         let hunk = Hunk::of_vectors(path, line, old, new)?;
         Some(Primitive::Hunk(hunk))
+    }
+
+    /// Makes the hunk as `hunk` does, of sides. It is reference counted, so that no copy of it allocates.
+    pub fn of_sides(
+        alloc: Global,
+        path: Path,
+        line: u32,
+        old: SideLines,
+        new: SideLines,
+    ) -> Result<Option<Primitive>, AllocError>
+        ensures exact { IfOk result (λ found. MatchOption found (¬ (IsInRange (hunk_of path line old new)))
+            (λ made. IsInRange (hunk_of path line old new) × (made ≡ Primitive.Hunk (hunk_of path line old new)))) }
+    {
+        match Hunk::of_sides(alloc, path, line, old, new)? {
+            Some(made) => Ok(Some(Primitive::Hunk(made))),
+            None => Ok(None),
+        }
     }
 
     /// Makes the change reference counted, so that no copy of it allocates. If memory runs out, the change is dropped.

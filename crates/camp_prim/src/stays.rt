@@ -9,7 +9,7 @@ use crate::labels::have_same_key;
 use crate::{Named, Primitive};
 
 /// True if `p` and then `q` commute unchanged: `p q <-> q p`. Does not allocate.
-pub fn stay(p: &Named, q: &Named) -> bool
+pub fn commutes_unchanged(p: &Named, q: &Named) -> bool
     ensures exact { IsTrue result ↔ Commute p.now q.now q.now p.now }
 {
     if have_same_key(p, q) {
@@ -18,10 +18,10 @@ pub fn stay(p: &Named, q: &Named) -> bool
     match targets_of(&p.prim, &q.prim) {
         None => false,
         Some(targets) => {
-            if !stays_at(&q.prim, targets.second) {
+            if !is_at_line(&q.prim, targets.second) {
                 return false;
             }
-            stays_at(&p.prim, targets.first)
+            is_at_line(&p.prim, targets.first)
         }
     }
 }
@@ -40,7 +40,7 @@ pub fn commutes(p: &Named, q: &Named) -> bool
 }
 
 /// True if a primitive is already at a line, if one is given.
-fn stays_at(p: &Primitive, line: Option<u32>) -> bool
+fn is_at_line(p: &Primitive, line: Option<u32>) -> bool
     ensures { IsTrue result ↔ (moved line p.now ≡ p.now) }
 {
     match (p, line) {

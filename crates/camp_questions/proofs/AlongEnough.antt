@@ -1,5 +1,5 @@
 -- A pull of the names to pull is not refused for a missing patch.
-use Rattle.camp_questions.proofs.Words.{and_from, and_parts, ◌≡◌, ℕ, Bool, true, false, not, ◌&&◌, List, [], ◌∷◌, ◌++◌, map, filter, None, Some, Ok, Err, refl, sym, ap, ◌∙◌, inl, inr, subst, Key, Catch, has_patch, is_among, name_of, names_of, among_kept, among_once, Arrange, AreAlike, Contents, catches_of, first_lacked, is_empty, step, AreAmong, CanMoveToFront, AreBlockedBy, filter_image, is_among_is, not_among, MergesAfterCommon, Outcome, PullGives, WantedNext, common_names, NoBranch, NoPatch, NothingToDo, TooLarge, keep_labels, lists_are_unique, lists_succeed_or_stick, KeysPart, keys_of, Decision, becomes, is_full_with, refused, refused_if, wanted, AnswerOf, OfBranch, OfPatches, AlongIsEnough, map-map, catch_key, ◌≢◌, ArrangeIsBlocked, arrange_by_members, in_order, GrowsToFront, Result, IfOk, IsReported, Unanswered, Refusal, Has, outcomes_are_determined, AreAfterCommon}
+use Rattle.camp_questions.proofs.Words.{and_from, and_parts, ◌≡◌, ℕ, Bool, true, false, not, ◌&&◌, List, [], ◌∷◌, ◌++◌, map, filter, None, Some, Ok, Err, refl, sym, ap, ◌∙◌, inl, inr, subst, Key, Catch, has_patch, is_among, name_of, names_of, among_kept, among_once, Arrange, AreAlike, Contents, catches_of, first_lacked, is_empty, step, AreAmong, CanMoveToFront, AreBlockedBy, filter_image, is_among_is, not_among, MergesAfterCommon, Outcome, PullGives, WantedNext, common_names, NoBranch, NoPatch, NothingToDo, TooLarge, keep_labels, lists_are_unique, lists_succeed_or_are_blocked, KeysPart, keys_of, Decision, becomes, is_full_with, refused, refused_if, wanted, AnswerOf, OfBranch, OfPatches, AlongIsEnough, map-map, catch_key, ◌≢◌, ArrangeIsBlocked, arrange_by_members, in_order, GrowsToFront, Result, IfOk, IsReported, Unanswered, Refusal, Has, outcomes_are_determined, AreAfterCommon}
 use Rattle.camp_branch.proofs.Words.{cond-false, cond-true}
 use Rattle.camp_branch.specs.declared.faults.Blocked.TheVariants as blocked
 use Rattle.camp_call.specs.declared.calls.Call.TheVariants as call
@@ -8,7 +8,7 @@ use Rattle.camp_repo.specs.Outcomes.{pulled}
 use Rattle.camp_questions.proofs.Answering.{by_branch, by_patches, no_refusal, same_answer}
 use Rattle.camp_questions.proofs.BranchGrowths.{none_lacked, none_lacked_among, to_front, contains_alike}
 use Rattle.camp_questions.proofs.Growths.{all_done, all_own, in_order_there, names_differ, same_in_order}
-use Rattle.camp_questions.specs.Along.{AlongOr, ComesAlong, OfTwo, HaveDiverged, ReportsAlong}
+use Rattle.camp_questions.specs.Along.{AlongOr, AreNamesToPull, OfTwo, HaveDiverged, ReportsAlong}
 use Rattle.camp_questions.proofs.Growing.{grown_in_order}
 
 -- an outcome does not say that one patch depends on another
@@ -28,7 +28,7 @@ wanted_freely : (names common : List (List ℕ)) (from_common list to : List Cat
 wanted_freely names common from_common list to outcome front (inl (chosen, left, arranged, merges)) =
     merges_freely common from_common chosen to outcome merges
 wanted_freely names common from_common list to outcome front (inr (stuck, other, sticks, e)) =
-    absurd ((lists_succeed_or_stick.arranges names list).1 front (stuck, other, sticks))
+    absurd ((lists_succeed_or_are_blocked.arranges names list).1 front (stuck, other, sticks))
 
 -- if the named patches can be moved directly after the common ones, no pull of them is refused because one depends on
 -- another
@@ -67,7 +67,7 @@ and_true : (a b : Bool) → (a ≡ true → b ≡ true) → (a && b) ≡ a
 and_true true b e = e refl
 and_true false b e = refl
 
-module _ (theirs ours : List Catch) (names told : List (List ℕ)) (none : first_lacked theirs names ≡ None) (along : ComesAlong theirs ours names told) where
+module _ (theirs ours : List Catch) (names told : List (List ℕ)) (none : first_lacked theirs names ≡ None) (along : AreNamesToPull theirs ours names told) where
   -- the wanted names are of patches among these
   wanted_there : AreAmong (wanted ours names) (map name_of along.1)
   wanted_there n there =
@@ -121,7 +121,7 @@ none_goes : (b : Bool) (decision : Decision) → Goes decision → Goes (refused
 none_goes true decision goes = record { there = λ name e. cc; free = λ patch on e. cc }
 none_goes false decision goes = goes
 
-goes : (state : Contents) (from to : List ℕ) (names told : List (List ℕ)) (theirs ours : List Catch) → Has state from theirs → Has state to ours → from ≢ to → first_lacked theirs names ≡ None → ComesAlong theirs ours names told → Goes (step state (call.Pull from to (Some told)))
+goes : (state : Contents) (from to : List ℕ) (names told : List (List ℕ)) (theirs ours : List Catch) → Has state from theirs → Has state to ours → from ≢ to → first_lacked theirs names ≡ None → AreNamesToPull theirs ours names told → Goes (step state (call.Pull from to (Some told)))
 goes state from to names told theirs ours is_from is_to two none comes =
     rw is_from (rw is_to (rw (names_differ from to two) (rw (none_left theirs ours names told none comes) (none_goes (is_empty (wanted ours told)) _ (full_goes (is_full_with state.limits.catches ours theirs (wanted ours told)) _ (becomes_goes state to (pulled theirs ours (wanted ours told)) (is_free theirs ours names told none comes)))))))
 
@@ -134,7 +134,7 @@ along_is_enough state from to names told w =
     by_branch state to (Between theirs) (Ok told) v (λ none. never (NoBranch to)) (λ ours is_to u. elim u [
       | inl one ↦ never (SameBranch to) one.1
       | inr two ↦ by_patches theirs names (AlongOr theirs ours names) (Ok told) two.1 (λ name lacks. never (NoPatch name)) (λ none t. elim t [
-        | inl it ↦ goes state from to names told theirs ours is_from is_to two.0 none (subst (ComesAlong theirs ours names) (same_answer (Ok told) it.0 told it.1 refl) it.2)
+        | inl it ↦ goes state from to names told theirs ours is_from is_to two.0 none (subst (AreNamesToPull theirs ours names) (same_answer (Ok told) it.0 told it.1 refl) it.2)
         | inr apart ↦ never (Diverged apart.0) apart.1
       ])
     ])) in
@@ -152,12 +152,12 @@ have_diverged from to names patch on alike w =
     (patch, on, arrange_by_members.sticks names (common_names from to) (contains_alike names (common_names from to) alike) from patch on w, refl)
 
 -- the names that have grown after the common patches are those to pull
-pub comes_along : (from to behind : List Catch) (names set grown told : List (List ℕ)) → AreAfterCommon from to behind → AreAlike set (wanted to names) → GrowsToFront behind set grown → told ≡ in_order from grown → ComesAlong from to names told
+pub comes_along : (from to behind : List Catch) (names set grown told : List (List ℕ)) → AreAfterCommon from to behind → AreAlike set (wanted to names) → GrowsToFront behind set grown → told ≡ in_order from grown → AreNamesToPull from to names told
 comes_along from to behind names set grown told stand alike grows is =
     (stand.0, behind, stand.1, grown_in_order (map name_of behind) (CanMoveToFront behind) (AreBlockedBy behind) (to_front behind) from (wanted to names) set grown told alike grows is)
 
 module _ (state : Contents) (from to : List ℕ) (names : List (List ℕ)) (theirs ours : List Catch) (is_from : catches_of state.branches from ≡ Some theirs) (is_to : catches_of state.branches to ≡ Some ours) where
-  pub along_told : {E : Type 0} (made : Result (List (List ℕ)) E) (result : Result (List (List ℕ)) Unanswered) → IsReported made result → IfOk made (ComesAlong theirs ours names) → from ≢ to → first_lacked theirs names ≡ None → ReportsAlong state from to names result
+  pub along_told : {E : Type 0} (made : Result (List (List ℕ)) E) (result : Result (List (List ℕ)) Unanswered) → IsReported made result → IfOk made (AreNamesToPull theirs ours names) → from ≢ to → first_lacked theirs names ≡ None → ReportsAlong state from to names result
   along_told (Ok told) result is w two none =
       rw is (rw is_from (rw is_to (inr (two, rw none (inl (told, refl, w))))))
   along_told (Err error) result is w two none =

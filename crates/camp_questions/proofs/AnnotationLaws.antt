@@ -1,5 +1,5 @@
 -- The laws of annotations.
-use Rattle.camp_questions.proofs.Words.{◌≡◌, ◌≤◌, ℕ, ◌+◌, ◌-◌, ◌==◌, Bool, true, false, ◌||◌, cond, List, [], ◌∷◌, ◌++◌, map, bytes_eq, subst, Option, None, Some, length, take, drop, replicate, refl, sym, ap, ◌∙◌, arith, empty, get, get-empty, get-insert, insert, Edit, key_cmp, key_of, label_of, Key, Named, Primitive, Add, Remove, Hunk, key_total, effect_of, Catch, has_patch, is_among, name_of, name_itself, or_true, Known, known_after_all, known_after_catches, known_after_change, known_after_hunk, names_coming, nothing_known, lines_or_none, LinesHaveNames, append_assoc, drop_at, drop-drop, length-append, length-take-le, take-append-drop, take_at, All, slice_range, splice, eq_by_cmp, is_eq, eq-eqb, All-append, All-drop, All-nil, All-replicate, All-take, none-some, same_Some, flipped, own_names, common_end, common_front, cond_both}
+use Rattle.camp_questions.proofs.Words.{◌≡◌, ◌≤◌, ℕ, ◌+◌, ◌-◌, ◌==◌, Bool, true, false, ◌||◌, cond, List, [], ◌∷◌, ◌++◌, map, bytes_eq, subst, Option, None, Some, length, take, drop, replicate, refl, sym, ap, ◌∙◌, arith, empty, get, get-empty, get-insert, insert, Edit, key_cmp, key_of, label_of, Key, Named, Primitive, Add, Remove, Hunk, key_total, effect_of, Catch, has_patch, is_among, name_of, name_itself, or_true, Known, known_after_all, known_after_catches, known_after_change, known_after_hunk, new_line_names, nothing_known, lines_or_none, LinesHaveNames, append_assoc, drop_at, drop-drop, length-append, length-take-le, take-append-drop, take_at, All, slice_range, splice, eq_by_cmp, is_eq, eq-eqb, All-append, All-drop, All-nil, All-replicate, All-take, none-some, same_Some, flipped, own_names, common_end, common_front, cond_both}
 use Rattle.std.proofs.lemmas.Cmp.{tied_itself}
 use Rattle.camp_questions.proofs.LineNames.{catches_count, coming_count, gone_count, none_known}
 
@@ -24,10 +24,10 @@ given_back name other key hunk known within =
     let from : ℕ = hunk.line - 1 in
     let to : ℕ = from + length hunk.old in
     let gone = slice_range known.names from to in
-    let coming = names_coming (get known.taken key) (own_names gone name hunk) (length hunk.new) in
+    let coming = new_line_names (get known.taken key) (own_names gone name hunk) (length hunk.new) in
     let many : length gone ≡ length hunk.old = gone_count hunk known within in
     let own = own_names (slice_range (splice known.names from to coming) from (from + length hunk.new)) other (flipped hunk) in
-    let there : names_coming (get (insert known.taken key gone) key) own (length hunk.old) ≡ gone = ap (λ o. names_coming o own (length hunk.old)) (found known key gone) ∙ ap (λ b. cond b gone own) (eq-eqb (length gone) (length hunk.old) many) in
+    let there : new_line_names (get (insert known.taken key gone) key) own (length hunk.old) ≡ gone = ap (λ o. new_line_names o own (length hunk.old)) (found known key gone) ∙ ap (λ b. cond b gone own) (eq-eqb (length gone) (length hunk.old) many) in
     ap (splice (splice known.names from to coming) from (from + length hunk.new)) there ∙ back known.names coming from to (from + length hunk.new) (omega arith) within (ap (λ n. from + n) (sym (coming_count name key hunk known within)))
 
 -- a fact holds of all names that are known
@@ -45,7 +45,7 @@ module _ (P : List ℕ → Type 0) where
       (All-append P (take front gone) (replicate between name) (All-take P front gone all) (All-replicate P between name one))
       (All-drop P (length gone - end) gone all)
 
-  coming_hold : (taken : Option (List (List ℕ))) (own : List (List ℕ)) (count : ℕ) → All P own → ((l : List (List ℕ)) → taken ≡ Some l → All P l) → All P (names_coming taken own count)
+  coming_hold : (taken : Option (List (List ℕ))) (own : List (List ℕ)) (count : ℕ) → All P own → ((l : List (List ℕ)) → taken ≡ Some l → All P l) → All P (new_line_names taken own count)
   coming_hold None own count one all = one
   coming_hold (Some taken) own count one all = cond_both (length taken == count) taken own (All P) (λ e. all taken refl) (λ e. one)
 
@@ -58,7 +58,7 @@ module _ (P : List ℕ → Type 0) where
       let from : ℕ = hunk.line - 1 in
       let to : ℕ = from + length hunk.old in
       let gone = slice_range known.names from to in
-      let coming = names_coming (get known.taken key) (own_names gone name hunk) (length hunk.new) in
+      let coming = new_line_names (get known.taken key) (own_names gone name hunk) (length hunk.new) in
       let all_gone : All P gone = All-take P (to - from) (drop from known.names) (All-drop P from known.names all.names) in
       let come : All P coming = coming_hold (get known.taken key) (own_names gone name hunk) (length hunk.new) (own_hold gone name hunk one all_gone) (all.taken key) in
       record {

@@ -1,5 +1,5 @@
 -- The arrows of a graph lead backwards.
-use Rattle.camp_questions.proofs.Words.{◌⊎◌, ◌≡◌, ◌≢◌, ℕ, Bool, true, false, true≢false, ◌||◌, cond, List, [], ◌∷◌, ◌++◌, map, bytes_eq, refl, sym, ap, ◌∙◌, subst, inl, inr, Key, Catch, IsBlockedAfter, is_among, is_among_is, name_of, names_of, same_name, CanMoveToFront, AreBlockedBy, AreAmong, NeedsDirectly, NeedsPatch, Node, ◌↔◌, HasPatches, Patch, IsLawfulBranch, has_patch, among_once, names_of_patches, ArrowsLeadBackwards, StandsBefore, false_from_ne_true, has_image, map-map, node_of}
+use Rattle.camp_questions.proofs.Words.{◌⊎◌, ◌≡◌, ◌≢◌, ℕ, Bool, true, false, true≢false, ◌||◌, cond, List, [], ◌∷◌, ◌++◌, map, bytes_eq, refl, sym, ap, ◌∙◌, subst, inl, inr, Key, Catch, IsBlockedAfter, is_among, is_among_is, name_of, names_of, same_name, CanMoveToFront, AreBlockedBy, AreAmong, NeedsDirectly, NeedsPatch, Node, ◌↔◌, HasPatches, Patch, IsLawfulBranch, has_patch, among_once, names_of_patches, ArrowsLeadBackwards, NameComesBefore, false_from_ne_true, has_image, map-map, node_of}
 use Rattle.camp_questions.proofs.Arrows.{arrows_are_direct_needs}
 use Rattle.camp_questions.proofs.Growths.{all_within, alone_among, among_cases}
 use Rattle.camp_questions.proofs.BranchGrowths.{in_order_among}
@@ -56,12 +56,12 @@ split_at (n ∷ names) name there = elim (among_cases n names name there) [
   | inr e ↦ let rest = split_at names name e in (n ∷ rest.0, rest.1, ap (λ l. n ∷ l) rest.2)
 ]
 
-earlier_stands : (names : List (List ℕ)) (last name : List ℕ) → is_among names last ≡ true → is_among (up_to names last) name ≡ true → name ≢ last → StandsBefore names name last
+earlier_stands : (names : List (List ℕ)) (last name : List ℕ) → is_among names last ≡ true → is_among (up_to names last) name ≡ true → name ≢ last → NameComesBefore names name last
 earlier_stands [] last name has there different = absurd (true≢false (sym has))
 earlier_stands (n ∷ names) last name has there different =
     at (bytes_eq last n) refl has there (λ w v. earlier_stands names last name w v different)
   where
-    next : (is_among names last ≡ true → is_among (up_to names last) name ≡ true → StandsBefore names name last) → is_among names last ≡ true → (name ≡ n) ⊎ (is_among (up_to names last) name ≡ true) → StandsBefore (n ∷ names) name last
+    next : (is_among names last ≡ true → is_among (up_to names last) name ≡ true → NameComesBefore names name last) → is_among names last ≡ true → (name ≡ n) ⊎ (is_among (up_to names last) name ≡ true) → NameComesBefore (n ∷ names) name last
     next later w (inl e) =
         let rest = split_at names last w in
         record { before = []; between = rest.0; behind = rest.1; are = ap (λ x. x ∷ names) (sym e) ∙ ap (λ l. name ∷ l) rest.2 }
@@ -69,7 +69,7 @@ earlier_stands (n ∷ names) last name has there different =
         let rest = later w v in
         record { before = n ∷ rest.before; between = rest.between; behind = rest.behind; are = ap (λ l. n ∷ l) rest.are }
 
-    at : (b : Bool) → bytes_eq last n ≡ b → (b || is_among names last) ≡ true → is_among (cond b (n ∷ []) (n ∷ up_to names last)) name ≡ true → (is_among names last ≡ true → is_among (up_to names last) name ≡ true → StandsBefore names name last) → StandsBefore (n ∷ names) name last
+    at : (b : Bool) → bytes_eq last n ≡ b → (b || is_among names last) ≡ true → is_among (cond b (n ∷ []) (n ∷ up_to names last)) name ≡ true → (is_among names last ≡ true → is_among (up_to names last) name ≡ true → NameComesBefore names name last) → NameComesBefore (n ∷ names) name last
     at true e w v later = elim (among_cases n [] name v) [
       | inl f ↦ absurd (different (f ∙ sym (same_name last n e)))
       | inr f ↦ absurd (true≢false (sym f))
@@ -85,7 +85,7 @@ needs_up_to branch name other lawful there needs =
     all_within (CanMoveToFront branch) (AreBlockedBy branch) (up_to own name) (stuck_up_to branch lawful.patches lawful.has name) (name ∷ []) grown.0 among grown.1 other (in_order_among branch ((name ∷ []) ++ grown.0) other (ap (λ l. is_among l other) (sym grown.2) ∙ needs.1.2))
 
 -- and come before it
-needs_stand_before : (branch : List Catch) (name other : List ℕ) → IsLawfulBranch branch → has_patch branch name ≡ true → NeedsPatch branch name other → StandsBefore (names_of branch) other name
+needs_stand_before : (branch : List Catch) (name other : List ℕ) → IsLawfulBranch branch → has_patch branch name ≡ true → NeedsPatch branch name other → NameComesBefore (names_of branch) other name
 needs_stand_before branch name other lawful has needs =
     let there : is_among (names_of branch) name ≡ true = among_once (map name_of branch) name ∙ has in
     earlier_stands (names_of branch) name other there (needs_up_to branch name other lawful there needs) needs.0

@@ -1,5 +1,5 @@
 -- Names that grow until they can be moved to the front of a branch, or taken out of it.
-use Rattle.camp_questions.proofs.Words.{and_parts, not-true, ◌≡◌, ◌≢◌, ℕ, Bool, true, false, true≢false, not, cond, ◌||◌, List, [], ◌∷◌, ◌++◌, map, None, Some, Ok, Err, bytes_eq, refl, sym, ap, ◌∙◌, inl, inr, ◌↔◌, Contains, Key, Catch, has_patch, is_among, name_of, is_among_is, name_itself, or_true, Next, Has, first_lacked, is_empty, step, AreHeldIn, CanGo, CanMoveToFront, AreBlockedBy, other_names, among_others, Contents, after, with_catches, AreAlike, obliterate_alike, AreAmong, HeldCanGo, HeldIsDetermined, NeedsAreDetermined, NeedsComeFirst, arrange_by_members, lists_are_unique, lists_succeed_or_stick, Outcome, subst, ArrangeIsBlocked, names_of, among_kept, in_order, IsPlain, NeedsAreLeast, what_stops_comes_along, outcomes_are_determined, Depends}
+use Rattle.camp_questions.proofs.Words.{and_parts, not-true, ◌≡◌, ◌≢◌, ℕ, Bool, true, false, true≢false, not, cond, ◌||◌, List, [], ◌∷◌, ◌++◌, map, None, Some, Ok, Err, bytes_eq, refl, sym, ap, ◌∙◌, inl, inr, ◌↔◌, Contains, Key, Catch, has_patch, is_among, name_of, is_among_is, name_itself, or_true, Next, Has, first_lacked, is_empty, step, DependsOnTakenOut, CanBeTakenOut, CanMoveToFront, AreBlockedBy, other_names, among_others, Contents, after, with_catches, AreAlike, obliterate_alike, AreAmong, HeldCanBeTakenOut, HeldIsDetermined, NeedsAreDetermined, NeedsComeFirst, arrange_by_members, lists_are_unique, lists_succeed_or_are_blocked, Outcome, subst, ArrangeIsBlocked, names_of, among_kept, in_order, IsPlain, NeedsAreLeast, blockers_are_included, outcomes_are_determined, Depends}
 use Rattle.camp_call.specs.declared.calls.Call.TheVariants as call
 use Rattle.camp_questions.proofs.Growths.{Grow, among_cases, grew, grows_to_one, in_order_there, all_within}
 use Rattle.camp_questions.proofs.Stuck.{sticks_between}
@@ -11,11 +11,11 @@ contains_alike names others alike n =
 -- patches can be moved to the front, or are blocked
 pub to_front : (branch : List Catch) → Grow (map name_of branch) (CanMoveToFront branch) (AreBlockedBy branch)
 to_front branch = record {
-  either = λ names. elim (lists_succeed_or_stick.arranges names branch).0 [
+  either = λ names. elim (lists_succeed_or_are_blocked.arranges names branch).0 [
     | inl w ↦ inl w
     | inr w ↦ inr (w.1.name, (w.0, w.1, w.2, refl))
   ];
-  apart = λ names name done stop. (lists_succeed_or_stick.arranges names branch).1 done (stop.0, stop.1, stop.2);
+  apart = λ names name done stop. (lists_succeed_or_are_blocked.arranges names branch).1 done (stop.0, stop.1, stop.2);
   one = λ names name other v w. v.3 ∙ ap (λ (key : Key). key.name) (lists_are_unique.arrange_sticks names branch v.0 w.0 v.1 w.1 v.2 w.2).1 ∙ sym w.3;
   has = λ names name stop. ap (is_among (map name_of branch)) stop.3 ∙ (sticks_between names branch stop.0 stop.1 stop.2).0.0;
   lacks = λ names name stop. ap (is_among names) stop.3 ∙ (sticks_between names branch stop.0 stop.1 stop.2).0.1;
@@ -36,7 +36,7 @@ stays branch names n e =
     (parts.0, not-true (is_among names n) parts.1)
 
 -- the patch that depends on those that are to go is one of the others
-held_in : (branch : List Catch) (names : List (List ℕ)) (name : List ℕ) → AreHeldIn branch names name → (has_patch branch name ≡ true) × (is_among names name ≡ false)
+held_in : (branch : List Catch) (names : List (List ℕ)) (name : List ℕ) → DependsOnTakenOut branch names name → (has_patch branch name ≡ true) × (is_among names name ≡ false)
 held_in branch names name held = elim held.1 [
   | inl w ↦ apart_outcomes w.0 name held.0 (Err (Depends name held.0)) w.3 refl
   | inr w ↦
@@ -46,9 +46,9 @@ held_in branch names name held = elim held.1 [
 ]
 
 -- patches can be taken out, or a patch depends on them
-pub to_go : (branch : List Catch) → Grow (map name_of branch) (CanGo branch) (AreHeldIn branch)
+pub to_go : (branch : List Catch) → Grow (map name_of branch) (CanBeTakenOut branch) (DependsOnTakenOut branch)
 to_go branch = record {
-  either = λ names. elim (lists_succeed_or_stick.arranges (other_names branch names) branch).0 [
+  either = λ names. elim (lists_succeed_or_are_blocked.arranges (other_names branch names) branch).0 [
     | inl w ↦ inl (w.0, inl (w.0, w.1, w.2, refl))
     | inr w ↦ inr (w.0.name, (w.1.name, inr (w.0, w.1, w.2, refl)))
   ];
@@ -91,7 +91,7 @@ pub needs_are_determined : NeedsAreDetermined
 needs_are_determined branch names = grows_to_one branch (CanMoveToFront branch) (AreBlockedBy branch) (to_front branch) names
 
 pub held_is_determined : HeldIsDetermined
-held_is_determined branch names = grows_to_one branch (CanGo branch) (AreHeldIn branch) (to_go branch) names
+held_is_determined branch names = grows_to_one branch (CanBeTakenOut branch) (DependsOnTakenOut branch) (to_go branch) names
 
 not_empty : (names held : List (List ℕ)) → names ≢ [] → AreAmong names held → is_empty held ≡ false
 not_empty [] held some among = absurd (some refl)
@@ -100,14 +100,14 @@ not_empty (n ∷ names) [] some among =
 not_empty (n ∷ names) (m ∷ held) some among = refl
 
 -- an obliteration of names that can be taken out is accepted
-accepted_if : (state : Contents) (name : List ℕ) (branch : List Catch) (held : List (List ℕ)) → Has state name branch → first_lacked branch held ≡ None → is_empty held ≡ false → CanGo branch held → (next : Contents) × (step state (call.Obliterate name held) ≡ Next next)
+accepted_if : (state : Contents) (name : List ℕ) (branch : List Catch) (held : List (List ℕ)) → Has state name branch → first_lacked branch held ≡ None → is_empty held ≡ false → CanBeTakenOut branch held → (next : Contents) × (step state (call.Obliterate name held) ≡ Next next)
 accepted_if state name branch held has all some can =
     let gives = sym ((outcomes_are_determined.obliterates branch held).2 (Ok can.0) can.1) in
     (after state (with_catches state.branches name can.0), rw has (rw all (rw some (rw gives refl))))
 
-pub held_can_go : HeldCanGo
-held_can_go state name branch names held has all some grows =
-    let grown = grew branch (CanGo branch) (AreHeldIn branch) (to_go branch) names held (none_lacked_among branch names all) grows in
+pub held_can_be_taken_out : HeldCanBeTakenOut
+held_can_be_taken_out state name branch names held has all some grows =
+    let grown = grew branch (CanBeTakenOut branch) (DependsOnTakenOut branch) (to_go branch) names held (none_lacked_among branch names all) grows in
     let there : first_lacked branch held ≡ None = none_lacked branch held (λ n among. in_order_there branch (names ++ grows.0) n (ap (λ l. is_among l n) (sym grows.2) ∙ among)) in
     (accepted_if state name branch held has there (not_empty names held some grown.1.has) grown.0, grown.1)
 
@@ -118,7 +118,7 @@ held_can_go state name branch names held has all some grows =
 pub stops_within : (branch : List Catch) (others : List (List ℕ)) → IsPlain branch → CanMoveToFront branch others → (names : List (List ℕ)) (name : List ℕ) → AreAmong names others → AreBlockedBy branch names name → is_among others name ≡ true
 stops_within branch others plain come names name among stop =
     let sticks = subst (λ list. ArrangeIsBlocked names list stop.0 stop.1) plain.are stop.2 in
-    let along = what_stops_comes_along plain.patches names others plain.room (λ n c. (is_among_is others n).1 (among n ((is_among_is names n).0 c))) stop.0 stop.1 sticks (subst (λ list. CanMoveToFront list others) plain.are come) in
+    let along = blockers_are_included plain.patches names others plain.room (λ n c. (is_among_is others n).1 (among n ((is_among_is names n).0 c))) stop.0 stop.1 sticks (subst (λ list. CanMoveToFront list others) plain.are come) in
     (is_among_is others name).0 (subst (λ n. Contains others n) (sym stop.3) along)
 
 -- names put in the order of a branch are among those names

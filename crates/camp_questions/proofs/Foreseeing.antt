@@ -1,10 +1,10 @@
 -- The branch that an accepted call writes to.
 use Rattle.camp_questions.proofs.OpenChanges.{changes_once, listed_there}
-use Rattle.camp_questions.proofs.Words.{◌≡◌, ℕ, cond, List, [], ◌∷◌, ◌++◌, Option, None, Some, bytes_eq, refl, sym, ap, ◌∙◌, subst, same_Some, Files, Catch, LeadsTo, AreConflicts, name_itself, step, accepted_calls, Branches, Contents, catches_of, conflicts_shown, tree_shown, Next, Answer, Effect, Has, cond_both, none-some, Decision, ForeseenComes}
+use Rattle.camp_questions.proofs.Words.{◌≡◌, ℕ, cond, List, [], ◌∷◌, ◌++◌, Option, None, Some, bytes_eq, refl, sym, ap, ◌∙◌, subst, same_Some, Files, Catch, LeadsTo, AreConflicts, name_itself, step, accepted_calls, Branches, Contents, catches_of, conflicts_shown, tree_shown, Next, Answer, Effect, Has, cond_both, none-some, Decision, ForeseenHappens}
 use Rattle.camp_call.specs.declared.calls.Call.{Call}
 use Rattle.camp_call.specs.declared.calls.Call.TheVariants as call
 use Rattle.camp_call.specs.declared.replies.Reply.TheVariants as reply
-use Rattle.camp_questions.specs.Foresight.{ForeseesOf, IsAcceptedSo, OpensAndResolves, IsBranchState, branch_written}
+use Rattle.camp_questions.specs.Foresight.{ForeseesOf, ForeseesAcceptance, OpensAndResolves, IsBranchState, branch_written}
 use Rattle.camp_questions.specs.declared.foresight.BranchState.{BranchState}
 use Rattle.camp_questions.specs.Inside.Foresight.{LedTo}
 use Rattle.camp_repo.specs.Objects.{replies_to, reply_of, state_after_decision}
@@ -56,7 +56,7 @@ stands_so next name catches tree copy pairs told opened resolved has leads same 
 }
 
 -- an accepted call is foreseen
-pub accepted_so : (call : Call) (state next : Contents) (standing : BranchState) (count : ℕ) → count ≡ next.count → branch_written call ≡ Some standing.branch → IsBranchState next standing → OpensAndResolves state next standing.branch standing.opened standing.resolved → IsAcceptedSo call state next (record { reply = reply.Done count; changed = Some standing })
+pub accepted_so : (call : Call) (state next : Contents) (standing : BranchState) (count : ℕ) → count ≡ next.count → branch_written call ≡ Some standing.branch → IsBranchState next standing → OpensAndResolves state next standing.branch standing.opened standing.resolved → ForeseesAcceptance call state next (record { reply = reply.Done count; changed = Some standing })
 accepted_so call state next standing count counted written stands changes =
     record { told = ap reply.Done counted; standing = standing; changed = refl; written = written; stands = stands; changes = changes }
 
@@ -92,8 +92,8 @@ comes_so state asked (Answer answer) seen w = record {
   unresolved = λ standing is. absurd (none-some standing (sym w.1 ∙ is));
 }
 
-pub foreseen_comes : ForeseenComes
-foreseen_comes state asked seen w =
+pub foreseen_happens : ForeseenHappens
+foreseen_happens state asked seen w =
     let so = comes_so state asked (step state asked) seen w in
     record {
       replied = so.replied;

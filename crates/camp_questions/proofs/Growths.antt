@@ -1,5 +1,5 @@
 -- Names to which others are added, one by one, until nothing stops them.
-use Rattle.camp_questions.proofs.Words.{◌≢◌, and_from, and_parts, not-true, or_cases, or_none, or_parts, or_true, passes_is_kept, ExactlyOne, append_assoc, list_any-append, Catch, has_patch, is_among, name_of, names_of, name_itself, same_name, among_kept, among_once, AreAlike, AreAdded, AreGrown, in_order, AreAmong, GrewFrom, WasMet, ◌≡◌, ◌⊎◌, ◌<◌, ◌≤◌, ℕ, zero, suc, Bool, true, false, true≢false, not, ◌||◌, ◌&&◌, List, [], ◌∷◌, ◌++◌, filter, length, map, bytes_eq, append-nil, refl, sym, ap, ◌∙◌, subst, inl, inr, arith, false_from_ne_true, filter_within, length-filter_both}
+use Rattle.camp_questions.proofs.Words.{◌≢◌, and_from, and_parts, not-true, or_cases, or_none, or_parts, or_true, passes_is_kept, ExactlyOne, append_assoc, list_any-append, Catch, has_patch, is_among, name_of, names_of, name_itself, same_name, among_kept, among_once, AreAlike, AreAdded, AreGrown, in_order, AreAmong, GrewFrom, WasAddedOnWay, ◌≡◌, ◌⊎◌, ◌<◌, ◌≤◌, ℕ, zero, suc, Bool, true, false, true≢false, not, ◌||◌, ◌&&◌, List, [], ◌∷◌, ◌++◌, filter, length, map, bytes_eq, append-nil, refl, sym, ap, ◌∙◌, subst, inl, inr, arith, false_from_ne_true, filter_within, length-filter_both}
 
 -- names are done, or a name that they lack stops them; both depend only on which names there are
 pub record Grow (own : List (List ℕ)) (Done : List (List ℕ) → Type 0) (Stops : List (List ℕ) → List ℕ → Type 0) : Type 0 where
@@ -120,10 +120,10 @@ module _ (own : List (List ℕ)) (Done : List (List ℕ) → Type 0) (Stops : Li
   all_done names (n ∷ added) w = subst Done (moved names n added) (all_done (names ++ n ∷ []) added w.1)
 
   -- each of them was added on the way
-  pub all_met : (names added : List (List ℕ)) → AreAdded Done Stops names added → (name : List ℕ) → is_among (names ++ added) name ≡ true → is_among names name ≡ false → WasMet Stops names (names ++ added) name
+  pub all_met : (names added : List (List ℕ)) → AreAdded Done Stops names added → (name : List ℕ) → is_among (names ++ added) name ≡ true → is_among names name ≡ false → WasAddedOnWay Stops names (names ++ added) name
   all_met names [] w name there lacks =
       absurd (true≢false (sym there ∙ ap (λ l. is_among l name) (append-nil names) ∙ lacks))
-  all_met names (n ∷ added) w name there lacks = elim (bytes_eq name n) as (λ b. bytes_eq name n ≡ b → WasMet Stops names (names ++ n ∷ added) name) [
+  all_met names (n ∷ added) w name there lacks = elim (bytes_eq name n) as (λ b. bytes_eq name n ≡ b → WasAddedOnWay Stops names (names ++ n ∷ added) name) [
     | true ↦ λ e. (names, (λ m among. among), among_first names (n ∷ added), subst (Stops names) (sym (same_name name n e)) w.0)
     | false ↦ λ e.
         let later = all_met (names ++ n ∷ []) added w.1 name (ap (λ l. is_among l name) (moved names n added) ∙ there) (one_behind names n name ∙ (λ i. lacks i || e i)) in (

@@ -1,5 +1,5 @@
 -- The part of a graph that belongs to some patches: those reached from them along arrows, and those that reach them.
-use Rattle.camp_questions.proofs.Words.{or_none, ◌≡◌, ℕ, zero, suc, Bool, true, false, true≢false, ◌||◌, inl, inr, List, [], ◌∷◌, ◌++◌, map, map-append, append_assoc, bytes_eq, refl, sym, ap, ◌∙◌, subst, arith, Contains, list_any, or_true, Catch, is_among, is_among_is, names_of, same_name, AreDistinct, IsLawfulBranch, Drawn, IsGraph, Node, IsReached, itself, along, if◌then◌else◌, names_of_patches, has_image, false_from_ne_true, Contains-append_right, HangTogether, PartsAreReached, with_needing, with_needing_one, with_needs, map-map, node_of, each_among}
+use Rattle.camp_questions.proofs.Words.{or_none, ◌≡◌, ℕ, zero, suc, Bool, true, false, true≢false, ◌||◌, inl, inr, List, [], ◌∷◌, ◌++◌, map, map-append, append_assoc, bytes_eq, refl, sym, ap, ◌∙◌, subst, arith, Contains, list_any, or_true, Catch, is_among, is_among_is, names_of, same_name, AreDistinct, IsLawfulBranch, Drawn, IsGraph, Node, IsReached, itself, along, if◌then◌else◌, names_of_patches, has_image, false_from_ne_true, Contains-append_right, IsConnected, PartsAreReached, with_needing, with_needing_one, with_needs, map-map, node_of, each_among}
 use Rattle.camp_questions.proofs.BackwardArrows.{arrows_lead_backwards}
 use Rattle.camp_questions.proofs.Growths.{among_cases, among_first, among_parts, among_second}
 use Rattle.camp_questions.proofs.PatchFronts.{at_first, one_passing, same_head}
@@ -192,13 +192,13 @@ parts_are_reached branch graph names lawful is other = (hangs, reached)
     ordered : AreOrdered graph.patches
     ordered = ordered_from branch graph lawful is [] graph.patches refl
 
-    hangs : is_among (needed ++ needing) other ≡ true → HangTogether graph names other
+    hangs : is_among (needed ++ needing) other ≡ true → IsConnected graph names other
     hangs there = elim (among_parts needed needing other there) [
       | inl w ↦ let from = needed_from graph graph.patches (λ q at. at) names other w in (from.0, from.1, inl from.2)
       | inr w ↦ let into = needing_into graph graph.patches (λ q at. at) names other w in (into.0, into.1, inr into.2)
     ]
 
-    reached : HangTogether graph names other → is_among (needed ++ needing) other ≡ true
+    reached : IsConnected graph names other → is_among (needed ++ needing) other ≡ true
     reached (name, among, inl from) =
         among_first needed needing other (from_there graph names ordered from (kept_needs graph.patches names name among))
     reached (name, among, inr into) =

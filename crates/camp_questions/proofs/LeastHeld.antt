@@ -1,22 +1,22 @@
 -- The dependents of names are the least list that can be taken out, if all catches are plain and have headroom; and a
 -- patch depends on another exactly if it is its dependent.
-use Rattle.camp_questions.proofs.Words.{◌≡◌, ℕ, true, false, true≢false, not, ◌&&◌, ◌||◌, List, [], ◌∷◌, ◌++◌, map, Ok, Err, refl, sym, ap, ◌∙◌, subst, inl, inr, Contains, ArrangeIsBlocked, Key, Catch, has_patch, is_among, name_of, name_itself, is_among_is, among_others, other_names, AreHeldIn, CanGo, CanMoveToFront, HeldBy, Needs, AreBlockedBy, AreAmong, IsPlain, false_from_ne_true, true_from_ne_false, HeldIsLeast, NeedsAndHeldAreOne, Depends, both_ways}
+use Rattle.camp_questions.proofs.Words.{◌≡◌, ℕ, true, false, true≢false, not, ◌&&◌, ◌||◌, List, [], ◌∷◌, ◌++◌, map, Ok, Err, refl, sym, ap, ◌∙◌, subst, inl, inr, Contains, ArrangeIsBlocked, Key, Catch, has_patch, is_among, name_of, name_itself, is_among_is, among_others, other_names, DependsOnTakenOut, CanBeTakenOut, CanMoveToFront, HeldBy, Needs, AreBlockedBy, AreAmong, IsPlain, false_from_ne_true, true_from_ne_false, HeldIsLeast, NeedsAndHeldAreOne, Depends, both_ways}
 use Rattle.camp_questions.proofs.PlainGoing.{what_comes_never_sticks}
 use Rattle.camp_questions.proofs.BranchGrowths.{apart_outcomes, same_patch, stays, to_front, to_go, in_order_among, needs_are_least}
 use Rattle.camp_questions.proofs.Growths.{alone_among, all_within, grew, in_order_there}
 
 -- names can be taken out exactly if the others can be moved to the front
-pub others_come : (branch : List Catch) (names : List (List ℕ)) → CanGo branch names → CanMoveToFront branch (other_names branch names)
+pub others_come : (branch : List Catch) (names : List (List ℕ)) → CanBeTakenOut branch names → CanMoveToFront branch (other_names branch names)
 others_come branch names can = elim can.1 [
   | inl w ↦ (w.0, w.1, w.2)
   | inr w ↦ apart_outcomes can.0 w.0.name w.1.name (Ok can.0) refl w.3
 ]
 
-pub can_go : (branch : List Catch) (names : List (List ℕ)) → CanMoveToFront branch (other_names branch names) → CanGo branch names
+pub can_go : (branch : List Catch) (names : List (List ℕ)) → CanMoveToFront branch (other_names branch names) → CanBeTakenOut branch names
 can_go branch names come = (come.0, inl (come.0, come.1, come.2, refl))
 
 -- if another patch depends on names, the others are blocked
-others_stick : (branch : List Catch) (names : List (List ℕ)) (name : List ℕ) → AreHeldIn branch names name → (patch : Key) × (on : Key) × ArrangeIsBlocked (other_names branch names) branch patch on × (name ≡ patch.name)
+others_stick : (branch : List Catch) (names : List (List ℕ)) (name : List ℕ) → DependsOnTakenOut branch names name → (patch : Key) × (on : Key) × ArrangeIsBlocked (other_names branch names) branch patch on × (name ≡ patch.name)
 others_stick branch names name held = elim held.1 [
   | inl w ↦ apart_outcomes w.0 name held.0 (Err (Depends name held.0)) w.3 refl
   | inr w ↦ (w.0, w.1, w.2, same_patch name w.0.name held.0 w.1.name (Err (Depends name held.0)) refl w.3)
@@ -32,7 +32,7 @@ module _ (branch : List Catch) where
       (is_among_is (other_names branch names) n).1 (stays_by names n parts.0 (false_from_ne_true (is_among names n) (λ e. true≢false (sym (among n e) ∙ parts.1))))
 
   -- the dependents of names are in each list that contains the names and can be taken out
-  pub held_within : (others : List (List ℕ)) → IsPlain branch → CanGo branch others → (names : List (List ℕ)) (name : List ℕ) → AreAmong names others → AreHeldIn branch names name → is_among others name ≡ true
+  pub held_within : (others : List (List ℕ)) → IsPlain branch → CanBeTakenOut branch others → (names : List (List ℕ)) (name : List ℕ) → AreAmong names others → DependsOnTakenOut branch names name → is_among others name ≡ true
   held_within others plain can names name among held =
       let come = subst (λ l. CanMoveToFront l (other_names branch others)) plain.are (others_come branch others can) in
       let stuck = others_stick branch names name held in
@@ -44,7 +44,7 @@ module _ (branch : List Catch) where
 
 pub held_is_least : HeldIsLeast
 held_is_least branch names held others plain holds among can name there =
-    all_within (CanGo branch) (AreHeldIn branch) others (held_within branch others plain can) names holds.0 among holds.1 name (in_order_among branch (names ++ holds.0) name (ap (λ l. is_among l name) (sym holds.2) ∙ there))
+    all_within (CanBeTakenOut branch) (DependsOnTakenOut branch) others (held_within branch others plain can) names holds.0 among holds.1 name (in_order_among branch (names ++ holds.0) name (ap (λ l. is_among l name) (sym holds.2) ∙ there))
 
 module _ (branch : List Catch) (plain : IsPlain branch) (x y : List ℕ) (has_x : has_patch branch x ≡ true) (has_y : has_patch branch y ≡ true) (needed held : List (List ℕ)) (needs : Needs branch (y ∷ []) needed) (holds : HeldBy branch (x ∷ []) held) where
   itself : (n : List ℕ) → is_among (n ∷ []) n ≡ true
@@ -55,9 +55,9 @@ module _ (branch : List Catch) (plain : IsPlain branch) (x y : List ℕ) (has_x 
       let w = grew branch (CanMoveToFront branch) (AreBlockedBy branch) (to_front branch) (y ∷ []) needed (alone_among y (map name_of branch) has_y) needs in
       (w.0, w.1.has y (itself y))
 
-  went : CanGo branch held × (is_among held x ≡ true)
+  went : CanBeTakenOut branch held × (is_among held x ≡ true)
   went =
-      let w = grew branch (CanGo branch) (AreHeldIn branch) (to_go branch) (x ∷ []) held (alone_among x (map name_of branch) has_x) holds in
+      let w = grew branch (CanBeTakenOut branch) (DependsOnTakenOut branch) (to_go branch) (x ∷ []) held (alone_among x (map name_of branch) has_x) holds in
       (w.0, w.1.has x (itself x))
 
   needed_is_held : is_among needed x ≡ true → is_among held y ≡ true

@@ -1,12 +1,12 @@
 -- Along the effects of a branch there are as many names as the file has lines.
-use Rattle.camp_questions.proofs.Words.{◌≡◌, ◌≢◌, ◌<◌, ◌≤◌, ℕ, ◌+◌, ◌-◌, ◌==◌, Bool, true, false, true≢false, List, [], ◌∷◌, ◌++◌, Option, None, Some, length, take, drop, get_or, bytes_eq, refl, sym, ap, ◌∙◌, subst, arith, empty, get, get-empty, slice_range, splice, nat_cmp, eq_by_cmp, slice_cmp, bytes_eq-Decides, Edit, key_of, label_of, Key, Named, Primitive, Add, Remove, Hunk, Catch, name_of, Known, known_after_all, known_after_catches, known_after_change, known_after_hunk, names_coming, names_of_lines, nothing_known, AppliesOn, AreKnownIn, FollowsOn, LiesWithin, lines_or_none, drop_more, length-append, length-drop, length-take-le, eqb-true, Applies, Files, Lines, Splices, FitsAll, effect_of, AppliesAll, own_names, cond_both, cond, key_cmp, find, get-from_entries, get-insert, insert, same_map, key_ties, key_total, kept_in, get-with_file, get-with_file_other, get-with_file_same, same_path, with_file, Equal-is, eq_by_cmp_equiv}
+use Rattle.camp_questions.proofs.Words.{◌≡◌, ◌≢◌, ◌<◌, ◌≤◌, ℕ, ◌+◌, ◌-◌, ◌==◌, Bool, true, false, true≢false, List, [], ◌∷◌, ◌++◌, Option, None, Some, length, take, drop, get_or, bytes_eq, refl, sym, ap, ◌∙◌, subst, arith, empty, get, get-empty, slice_range, splice, nat_cmp, eq_by_cmp, slice_cmp, bytes_eq-Decides, Edit, key_of, label_of, Key, Named, Primitive, Add, Remove, Hunk, Catch, name_of, Known, known_after_all, known_after_catches, known_after_change, known_after_hunk, new_line_names, names_of_lines, nothing_known, AppliesWithNames, AreKnownIn, EffectAppliesWithNames, LiesWithin, lines_or_none, drop_more, length-append, length-drop, length-take-le, eqb-true, Applies, Files, Lines, Splices, FitsAll, effect_of, AppliesAll, own_names, cond_both, cond, key_cmp, find, get-from_entries, get-insert, insert, same_map, key_ties, key_total, kept_in, get-with_file, get-with_file_other, get-with_file_same, same_path, with_file, Equal-is, eq_by_cmp_equiv}
 use Rattle.camp_questions.proofs.CommonSteps.{own_count}
 use Rattle.std.specs.BTreeMap as tree
 use Rattle.std.specs.BTreeMap.{BTreeMap, is_at}
 use Rattle.std.specs.Map.{lookup}
 
 -- as many names as new lines are added
-pub as_many : (taken : Option (List (List ℕ))) (own : List (List ℕ)) (count : ℕ) → length own ≡ count → length (names_coming taken own count) ≡ count
+pub as_many : (taken : Option (List (List ℕ))) (own : List (List ℕ)) (count : ℕ) → length own ≡ count → length (new_line_names taken own count) ≡ count
 as_many None own count long = long
 as_many (Some taken) own count long = cond_both (length taken == count) taken own (λ l. length l ≡ count) (λ e. eqb-true (length taken) count e) (λ e. long)
 
@@ -19,7 +19,7 @@ gone_count hunk known within =
 
 -- and as many are added as it has new ones
 pub coming_count : (name : List ℕ) (key : Key) (hunk : Edit) (known : Known) → LiesWithin hunk known
-    → length (names_coming (get known.taken key) (own_names (slice_range known.names (hunk.line - 1) (hunk.line - 1 + length hunk.old)) name hunk) (length hunk.new)) ≡ length hunk.new
+    → length (new_line_names (get known.taken key) (own_names (slice_range known.names (hunk.line - 1) (hunk.line - 1 + length hunk.old)) name hunk) (length hunk.new)) ≡ length hunk.new
 coming_count name key hunk known within =
     let gone = slice_range known.names (hunk.line - 1) (hunk.line - 1 + length hunk.old) in
     as_many (get known.taken key) (own_names gone name hunk) (length hunk.new) (own_count gone name hunk (gone_count hunk known within))
@@ -48,7 +48,7 @@ hunk_counts path name key hunk old new known same w are =
     let found : length known.names ≡ length w.lines = are ∙ ap (λ p. length (lines_or_none (get old p))) (sym same) ∙ ap (λ o. length (lines_or_none o)) w.found in
     let s = w.splices in
     let within = stands_within path hunk old new known same w are in
-    let coming = names_coming (get known.taken key) (own_names (slice_range known.names (hunk.line - 1) (hunk.line - 1 + length hunk.old)) name hunk) (length hunk.new) in
+    let coming = new_line_names (get known.taken key) (own_names (slice_range known.names (hunk.line - 1) (hunk.line - 1 + length hunk.old)) name hunk) (length hunk.new) in
     let parts : length w.lines ≡ length s.before + length hunk.old + length s.after = ap length s.was ∙ length-append (s.before ++ hunk.old) s.after ∙ ap (λ n. n + length s.after) (length-append s.before hunk.old) in
     let becomes : length w.changed ≡ length s.before + length hunk.new + length s.after = ap length s.becomes ∙ length-append (s.before ++ hunk.new) s.after ∙ ap (λ n. n + length s.after) (length-append s.before hunk.new) in
     let now : get new path ≡ Some w.changed = ap (λ p. get new p) (sym same) ∙ ap (λ t. get t hunk.path) w.becomes ∙ get-with_file_same old hunk.path (Some w.changed) in
@@ -81,13 +81,13 @@ effect_counts path name (p ∷ s) old new known w are =
 -- a state between primitives: the rest of the effect leads to the same tree, and applies
 pub record IsOnTheWay (path name : List ℕ) (start : Known) (effect rest : List Named) (known : Known) : Type 0 where
   pub leads : known_after_all path name rest known ≡ known_after_all path name effect start
-  pub follows : FollowsOn path rest known
+  pub follows : EffectAppliesWithNames path rest known
 
 next_applies : (path name : List ℕ) (start : Known) (effect : List Named) (i : ℕ) (p d : Named) (known : Known) → i < length effect → p ≡ get_or effect i d → IsOnTheWay path name start effect (drop i effect) known → IsOnTheWay path name start effect (p ∷ drop (i + 1) effect) known
 next_applies path name start effect i p d known within is way =
     subst (λ rest. IsOnTheWay path name start effect rest known) (drop_more effect i d within ∙ ap (λ q. q ∷ drop (i + 1) effect) (sym is)) way
 
-pub applies_next : (path name : List ℕ) (start : Known) (effect : List Named) (i : ℕ) (p d : Named) (known : Known) → i < length effect → p ≡ get_or effect i d → IsOnTheWay path name start effect (drop i effect) known → AppliesOn path p.prim known
+pub applies_next : (path name : List ℕ) (start : Known) (effect : List Named) (i : ℕ) (p d : Named) (known : Known) → i < length effect → p ≡ get_or effect i d → IsOnTheWay path name start effect (drop i effect) known → AppliesWithNames path p.prim known
 applies_next path name start effect i p d known within is way =
     let follows = (next_applies path name start effect i p d known within is way).follows in
     (follows.0, follows.2.0, follows.2.1, follows.3)
@@ -101,9 +101,9 @@ one_further path name start effect i p d known next within is way becomes =
       follows = (follows.2.0, follows.1, follows.2.2, change_counts path name (key_of (label_of p)) p.prim follows.0 follows.2.0 known follows.2.1 follows.3);
     })
 
-pub hunk_stands : (path : List ℕ) (p : Primitive) (hunk : Edit) (known : Known) (b : Bool) → p ≡ Hunk hunk → AppliesOn path p known → b ≡ bytes_eq hunk.path path → b ≡ true → LiesWithin hunk known
+pub hunk_stands : (path : List ℕ) (p : Primitive) (hunk : Edit) (known : Known) (b : Bool) → p ≡ Hunk hunk → AppliesWithNames path p known → b ≡ bytes_eq hunk.path path → b ≡ true → LiesWithin hunk known
 hunk_stands path p hunk known b is applies same true_b =
-    let w = subst (λ q. AppliesOn path q known) is applies in
+    let w = subst (λ q. AppliesWithNames path q known) is applies in
     stands_within path hunk w.0 w.1 known ((bytes_eq-Decides hunk.path path).0 (sym same ∙ true_b)) w.2 w.3
 
 -- after catches there are as many names as lines
@@ -121,7 +121,7 @@ pub record IsAlong (path : List ℕ) (catches rest : List Catch) (known : Known)
   pub fits : FitsAll rest tree aim
   pub are : AreKnownIn path tree known
 
-pub follows_next : (path : List ℕ) (catches : List Catch) (k : Catch) (rest : List Catch) (effect : List Named) (known : Known) → effect ≡ effect_of k → IsAlong path catches (k ∷ rest) known → FollowsOn path effect known
+pub follows_next : (path : List ℕ) (catches : List Catch) (k : Catch) (rest : List Catch) (effect : List Named) (known : Known) → effect ≡ effect_of k → IsAlong path catches (k ∷ rest) known → EffectAppliesWithNames path effect known
 follows_next path catches k rest effect known is along =
     (along.tree, along.fits.0, subst (λ s. AppliesAll s along.tree along.fits.0) (sym is) along.fits.1.effect, along.are)
 

@@ -1,5 +1,5 @@
 -- The unresolved conflicts of a branch are one list, and what is in one such list and not in another is found.
-use Rattle.camp_questions.proofs.Words.{◌≡◌, ◌≤◌, ◌<◌, ℕ, ◌+◌, Bool, true, false, cond, ◌&&◌, List, [], ◌∷◌, ◌++◌, length, get_or, Option, None, Some, Result, Ok, Err, refl, sym, ap, ◌∙◌, subst, arith, none-some, same_Some, MatchOption, Contains, Contains-get_or, list_any, false_from_ne_true, cases_lt, inl, inr, flat_map, get, same_map, FinMap, Catch, effect_of, inverse_all, AddsAll, Key, key_cmp, key_total, key_ties, AnswerOf, NoBranch, ContextedPatch, Pair, AreOpenAmong, AreOpenIn, AreSeen, IsSeen, HaveNoContexted, contexted_in, Contents, catches_of}
+use Rattle.camp_questions.proofs.Words.{◌≡◌, ◌≤◌, ◌<◌, ℕ, ◌+◌, true, false, List, [], ◌∷◌, ◌++◌, length, get_or, Option, None, Some, Result, Ok, Err, refl, sym, ap, ◌∙◌, subst, arith, none-some, same_Some, MatchOption, Contains, Contains-get_or, list_any, false_from_ne_true, cases_lt, inl, inr, flat_map, get, same_map, FinMap, Catch, effect_of, inverse_all, AddsAll, Key, key_cmp, key_total, key_ties, AnswerOf, NoBranch, ContextedPatch, Pair, AreUnresolvedAmong, AreUnresolvedIn, IsSeen, HaveNoContexted, contexted_in, Contents, catches_of}
 use Rattle.std.proofs.lemmas.List.Sorted.{searchable_from_sorted}
 use Rattle.std.proofs.lemmas.Map.Views.{Contains-from_any, list_any-from_Contains, tells_apart}
 use Rattle.std.specs.Cmp.{both_tied, eq_by_cmp_equiv, tied_itself}
@@ -7,13 +7,12 @@ use Rattle.std.specs.Cmp.Lexicographic.{texts_ties}
 use Rattle.std.specs.List.Sorted.{IsBinarySearchResult, IsSearchInRange, IsSortedBy}
 use Rattle.std.specs.Ordering.{eq_by_cmp, is_lt, ordering_reverse}
 use Rattle.std.specs.Prelude.{AllPairs, is_ok}
-use Rattle.std.specs.declared.cmp.Ordering.{Ordering}
 use Rattle.std.specs.declared.cmp.Ordering.TheVariants.{Less, Equal, Greater}
 use Rattle.camp_branch.proofs.SortedPairs.{Within, ascending_once, by_names, by_names_total, less_by_before, pairs_tie, by_name, same_names}
 use Rattle.camp_branch.specs.Conflicting.{IsBefore}
 use Rattle.camp_ctx.proofs.AddResults.{one_add_of_all}
-use Rattle.camp_questions.specs.Foresight.{AreOpenThere, OpensAndResolves, is_pair_among, pairs_without}
-use Rattle.camp_questions.specs.OpenConflicts.{AreOpen}
+use Rattle.camp_questions.specs.Foresight.{AreUnresolvedAt, OpensAndResolves, is_pair_among, pairs_without}
+use Rattle.camp_questions.specs.OpenConflicts.{AreUnresolved}
 
 -- ---- a label in conflict is seen in one way
 
@@ -56,21 +55,21 @@ seen_alike branch key (Some s) (Some t) v w = ap Some (seen_once branch key s t 
 
 -- ---- unresolved conflicts are one list
 
-within_other : (branch : List Catch) (seen : FinMap key_cmp ContextedPatch) (pairs others : List Pair) → AreOpenAmong branch seen pairs → AreOpenAmong branch seen others → Within pairs others
+within_other : (branch : List Catch) (seen : FinMap key_cmp ContextedPatch) (pairs others : List Pair) → AreUnresolvedAmong branch seen pairs → AreUnresolvedAmong branch seen others → Within pairs others
 within_other branch seen pairs others are also p c = (also.listed p.0 p.1).1 ((are.listed p.0 p.1).0 c)
 
-pub open_once : (branch : List Catch) (pairs others : List Pair) → AreOpenIn branch pairs → AreOpenIn branch others → pairs ≡ others
+pub open_once : (branch : List Catch) (pairs others : List Pair) → AreUnresolvedIn branch pairs → AreUnresolvedIn branch others → pairs ≡ others
 open_once branch pairs others are also =
     let same : also.0 ≡ are.0 = same_map key_total key_ties also.0 are.0 (λ key. seen_alike branch key (get also.0 key) (get are.0 key) (also.1 key) (are.1 key)) in
-    let among = subst (λ seen. AreOpenAmong branch seen others) same also.2 in
+    let among = subst (λ seen. AreUnresolvedAmong branch seen others) same also.2 in
     ascending_once pairs others are.2.ascending among.ascending (within_other branch are.0 pairs others are.2 among) (within_other branch are.0 others pairs among are.2)
 
-there_once : (o : Option (List Catch)) (pairs others : List Pair) → MatchOption o (pairs ≡ []) (λ branch. AreOpenIn branch pairs) → MatchOption o (others ≡ []) (λ branch. AreOpenIn branch others) → pairs ≡ others
+there_once : (o : Option (List Catch)) (pairs others : List Pair) → MatchOption o (pairs ≡ []) (λ branch. AreUnresolvedIn branch pairs) → MatchOption o (others ≡ []) (λ branch. AreUnresolvedIn branch others) → pairs ≡ others
 there_once None pairs others none also = none ∙ sym also
 there_once (Some branch) pairs others are also = open_once branch pairs others are also
 
 -- so a call opens and resolves what is unresolved after it and not before, and before it and not after
-pub changes_once : (state next : Contents) (name : List ℕ) (opened resolved before after : List Pair) → OpensAndResolves state next name opened resolved → AreOpenThere state name before → AreOpenThere next name after → (opened ≡ pairs_without before after) × (resolved ≡ pairs_without after before)
+pub changes_once : (state next : Contents) (name : List ℕ) (opened resolved before after : List Pair) → OpensAndResolves state next name opened resolved → AreUnresolvedAt state name before → AreUnresolvedAt next name after → (opened ≡ pairs_without before after) × (resolved ≡ pairs_without after before)
 changes_once state next name opened resolved before after w were are =
     let first = there_once (catches_of state.branches name) w.before before w.were were in
     let second = there_once (catches_of next.branches name) w.after after w.are are in
@@ -80,18 +79,18 @@ changes_once state next name opened resolved before after w were are =
 abbrev Same : AnswerOf (List Pair) → AnswerOf (List Pair) → Type 0
 Same one other = one ≡ other
 
-listed_of : (o : Option (List Catch)) (name : List ℕ) (pairs : List Pair) → MatchOption o (Same (Ok pairs) (Err (NoBranch name))) (λ branch. (told : List Pair) × Same (Ok pairs) (Ok told) × AreOpenIn branch told) → MatchOption o (pairs ≡ []) (λ branch. AreOpenIn branch pairs)
+listed_of : (o : Option (List Catch)) (name : List ℕ) (pairs : List Pair) → MatchOption o (Same (Ok pairs) (Err (NoBranch name))) (λ branch. (told : List Pair) × Same (Ok pairs) (Ok told) × AreUnresolvedIn branch told) → MatchOption o (pairs ≡ []) (λ branch. AreUnresolvedIn branch pairs)
 listed_of None name pairs is = cc
-listed_of (Some branch) name pairs is = subst (AreOpenIn branch) (cc is.1) is.2
+listed_of (Some branch) name pairs is = subst (AreUnresolvedIn branch) (cc is.1) is.2
 
-pub listed_there : (state : Contents) (name : List ℕ) (pairs : List Pair) → AreOpen state name (Ok pairs) → AreOpenThere state name pairs
+pub listed_there : (state : Contents) (name : List ℕ) (pairs : List Pair) → AreUnresolved state name (Ok pairs) → AreUnresolvedAt state name pairs
 listed_there state name pairs are = listed_of (catches_of state.branches name) name pairs are
 
-there_ascends : (o : Option (List Catch)) (pairs : List Pair) → MatchOption o (pairs ≡ []) (λ branch. AreOpenIn branch pairs) → AllPairs IsBefore pairs
+there_ascends : (o : Option (List Catch)) (pairs : List Pair) → MatchOption o (pairs ≡ []) (λ branch. AreUnresolvedIn branch pairs) → AllPairs IsBefore pairs
 there_ascends None pairs none = subst (AllPairs IsBefore) (sym none) (λ i j d less within. absurd (omega arith))
 there_ascends (Some branch) pairs are = are.2.ascending
 
-pub ascend_there : (state : Contents) (name : List ℕ) (pairs : List Pair) → AreOpenThere state name pairs → AllPairs IsBefore pairs
+pub ascend_there : (state : Contents) (name : List ℕ) (pairs : List Pair) → AreUnresolvedAt state name pairs → AllPairs IsBefore pairs
 ascend_there state name pairs are = there_ascends (catches_of state.branches name) pairs are
 
 -- ---- a search among ascending pairs

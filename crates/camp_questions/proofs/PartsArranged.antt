@@ -1,5 +1,5 @@
 -- Arranging lists of catches part by part.
-use Rattle.camp_questions.proofs.Words.{◌≡◌, ◌<◌, ℕ, ◌+◌, ◌-◌, true≢false, false, ◌||◌, arith, get_or, length, take, take_more, List, [], ◌∷◌, ◌++◌, bytes_eq, append-nil, append_assoc, refl, sym, ap, ◌∙◌, subst, inl, inr, AllByRecursion, Key, Catch, AreAlike, Arrange, ArrangeIsBlocked, ArrangesAfter, IsBlockedAfter, StopsAt, is_among, is_among_is, name_of, take_all, DoNotCommute, IsOf, catch_key, KeysPart, keys_of, keep_labels, arrange_by_members, AreApart, AreOfPatch, AllStay, AreBlockedAfter, Result, Ok, Err}
+use Rattle.camp_questions.proofs.Words.{◌≡◌, ◌<◌, ℕ, ◌+◌, ◌-◌, true≢false, false, ◌||◌, arith, get_or, length, take, take_more, List, [], ◌∷◌, ◌++◌, bytes_eq, append-nil, append_assoc, refl, sym, ap, ◌∙◌, subst, inl, inr, AllByRecursion, Key, Catch, AreAlike, Arrange, ArrangeIsBlocked, ArrangesAfter, IsBlockedAfter, IsBlockedByKey, is_among, is_among_is, name_of, take_all, DoNotCommute, IsOf, catch_key, KeysPart, keys_of, keep_labels, arrange_by_members, AreApart, AreOfPatch, AllCommuteUnchanged, AreBlockedAfter, Result, Ok, Err}
 use Rattle.std.specs.Result.{MatchResult}
 use Rattle.camp_catch.specs.Making.{GivesOrRunsOut}
 use Rattle.camp_catch.specs.declared.arranging.Arranged.{Arranged}
@@ -85,12 +85,12 @@ stuck_name name rest (k ∷ list) patch on own (inr (inr w)) =
     stuck_name name (rest ++ k ∷ []) list patch on own.1 w.1
 
 -- catches that stay unchanged are moved in front of others that stay unchanged
-pub all_came : (name : List ℕ) (going list : List Catch) → AreOfPatch name list → AllStay going list → ArrangesAfter (name ∷ []) going list list going
+pub all_came : (name : List ℕ) (going list : List Catch) → AreOfPatch name list → AllCommuteUnchanged going list → ArrangesAfter (name ∷ []) going list list going
 all_came name going [] own stay = (refl, refl)
 all_came name going (k ∷ list) own stay =
     inl (of_its_name name k own.0, (k, going, list, stay.0, all_came name going list own.1 stay.1, refl))
 
-stopped_by_last : (going : List Catch) (j k : Catch) → DoNotCommute j k → StopsAt (going ++ j ∷ []) k (catch_key j)
+stopped_by_last : (going : List Catch) (j k : Catch) → DoNotCommute j k → IsBlockedByKey (going ++ j ∷ []) k (catch_key j)
 stopped_by_last [] j k never = inr (k, [], (refl, refl), never, refl)
 stopped_by_last (g ∷ going) j k never = inl (stopped_by_last going j k never)
 
@@ -101,7 +101,7 @@ first_stuck name going (q ∷ list) j k dj dk some more is first own never =
     let n = length going - 1 in
     let whole : going ≡ take n going ++ j ∷ [] = sym (take_all (n + 1) going (omega (arith, some))) ∙ take_more going n dj (omega (arith, some)) ∙ ap (λ x. take n going ++ x ∷ []) (sym is) in
     let stops = stopped_by_last (take n going) j q (subst (DoNotCommute j) first never) in
-    (catch_key q, catch_key j, inl (of_its_name name q own.0, subst (λ l. StopsAt l q (catch_key j)) (sym whole) stops, refl))
+    (catch_key q, catch_key j, inl (of_its_name name q own.0, subst (λ l. IsBlockedByKey l q (catch_key j)) (sym whole) stops, refl))
 
 -- none of some catches is of the patch
 others_of_it : (name : List ℕ) (list : List Catch) → AreApart name list → AreNotOf (name ∷ []) list

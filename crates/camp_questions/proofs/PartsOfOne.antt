@@ -1,5 +1,5 @@
 -- The part of a graph that belongs to one patch, by the dependencies of its own patches alone.
-use Rattle.camp_questions.proofs.Words.{arith, drawn_about, whole_picture, ◌≡◌, ◌≢◌, ℕ, Bool, true, false, true≢false, not, ◌&&◌, ◌||◌, cond, List, [], ◌∷◌, ◌++◌, map, filter, bytes_eq, refl, sym, ap, ◌∙◌, subst, inl, inr, ◌⊎◌, ◌↔◌, Contains, AllByRecursion, list_any, Catch, Needs, CanMoveToFront, Drawn, IsGraph, Needing, NeedsThese, goes_between, needs_directly, needs_other, node_of, Node, IsPlain, IsReached, NeedsDirectly, NeedsPatch, itself, along, IsLawfulBranch, has_patch, is_among, name_of, names_of, map-map, map-id, is_among_is, cases_Bool, has_image, among_kept, among_once, name_itself, same_name, or_true, and_from, and_parts, not-true, both_ways, Needed, needing, marked, node_in, kept_node, hangs_on, filter_image, in_order, ◌<◌, ◌+◌, take, length, get_or, map-append, take_more, all_append, PatchCatches, catches_in_order, IsInverted, AreAlike, GrowsToGo, AreBlockedBy, reverse, reverse-reverse, AreConflicts, AreDistinct, names_of_patches}
+use Rattle.camp_questions.proofs.Words.{arith, graph_part, whole_picture, ◌≡◌, ℕ, Bool, true, false, true≢false, not, ◌&&◌, ◌||◌, cond, List, [], ◌∷◌, ◌++◌, map, filter, bytes_eq, refl, sym, ap, ◌∙◌, subst, inl, inr, ◌⊎◌, ◌↔◌, Contains, AllByRecursion, list_any, Catch, Needs, CanMoveToFront, Drawn, IsGraph, Needing, NeedsThese, goes_between, needs_directly, needs_other, node_of, Node, IsPlain, IsReached, NeedsDirectly, NeedsPatch, itself, along, IsLawfulBranch, has_patch, is_among, name_of, names_of, map-map, map-id, is_among_is, cases_Bool, has_image, among_kept, among_once, name_itself, same_name, or_true, and_from, and_parts, not-true, both_ways, Needed, needing, marked, node_in, kept_node, is_one_or_neighbour, filter_image, in_order, ◌<◌, ◌+◌, take, length, get_or, map-append, take_more, all_append, PatchCatches, catches_in_order, IsInverted, AreAlike, GrowsToTakeOut, AreBlockedBy, reverse, reverse-reverse, AreConflicts, AreDistinct, names_of_patches}
 use Rattle.camp_branch.proofs.Names.{distinct_filter}
 use Rattle.camp_questions.proofs.Arrows.{arrow_is_need, is_there, need_is_arrow, one_needed}
 use Rattle.camp_questions.proofs.BranchGrowths.{needs_are_determined, needs_are_least, needs_come_first, none_lacked, to_front}
@@ -233,9 +233,9 @@ module _ (branch : List Catch) (plain : IsPlain branch) (lawful : IsLawfulBranch
       ap (is_among own) (sym arrow.2) ∙ (is_among_is own arrow.0.name).0 (subst (λ l. Contains l arrow.0.name) called (has_image (λ (n : Node). n.name) graph.patches arrow.0 arrow.1))
 
   -- these patches are the part that belongs to the one
-  pub hangs_alike : (graph : Drawn) → IsGraph branch graph → (n : List ℕ) → hangs_on graph.patches (x ∷ []) n ≡ is_among related n
+  pub hangs_alike : (graph : Drawn) → IsGraph branch graph → (n : List ℕ) → is_one_or_neighbour graph.patches (x ∷ []) n ≡ is_among related n
   hangs_alike graph is n =
-      both_ways (hangs_on graph.patches (x ∷ []) n) (is_among related n) forth back
+      both_ways (is_one_or_neighbour graph.patches (x ∷ []) n) (is_among related n) forth back
     where
       called : map (λ (p : Node). p.name) graph.patches ≡ own
       called =
@@ -258,7 +258,7 @@ module _ (branch : List Catch) (plain : IsPlain branch) (lawful : IsLawfulBranch
       into reached =
           let there = reaches_own graph called n x reached has in of_side n there (inr ((by_reach n x there).1 reached))
 
-      forth : hangs_on graph.patches (x ∷ []) n ≡ true → is_among related n ≡ true
+      forth : is_one_or_neighbour graph.patches (x ∷ []) n ≡ true → is_among related n ≡ true
       forth e =
           let hang = (parts_are_reached branch graph (x ∷ []) lawful is n).0 e in
           let one : hang.0 ≡ x = elim (among_cases x [] hang.0 hang.1) [ inl e ↦ e | inr e ↦ absurd (true≢false (sym e)) ] in
@@ -267,7 +267,7 @@ module _ (branch : List Catch) (plain : IsPlain branch) (lawful : IsLawfulBranch
             | inr reached ↦ into (subst (λ m. IsReached graph n m) one reached)
           ]
 
-      back : is_among related n ≡ true → hangs_on graph.patches (x ∷ []) n ≡ true
+      back : is_among related n ≡ true → is_one_or_neighbour graph.patches (x ∷ []) n ≡ true
       back e =
           let side = side_of n e in
           let reached : IsReached graph x n ⊎ IsReached graph n x = elim side.1 [
@@ -289,12 +289,12 @@ one_marked branch among own i n d all next one within is each marks called becom
 }
 
 -- what goes with a patch of the inverted branch is marked
-pub grown_marks : (branch : List Catch) (back : List PatchCatches) (among set grown : List (List ℕ)) (one : Needed) → IsInverted branch (reverse back) → AreAlike set (one.name ∷ []) → GrowsToGo (catches_in_order back) set grown → one.needs.items ≡ map (is_among grown) among → IsMarkedAmong branch among one
+pub grown_marks : (branch : List Catch) (back : List PatchCatches) (among set grown : List (List ℕ)) (one : Needed) → IsInverted branch (reverse back) → AreAlike set (one.name ∷ []) → GrowsToTakeOut (catches_in_order back) set grown → one.needs.items ≡ map (is_among grown) among → IsMarkedAmong branch among one
 grown_marks branch back among set grown one inverted alike grows are = record {
   needed = in_order branch grown;
   grown = grown;
   needs =
-      let turned = subst (λ l. GrowsToGo (catches_in_order l) set grown) (sym (reverse-reverse back)) grows in
+      let turned = subst (λ l. GrowsToTakeOut (catches_in_order l) set grown) (sym (reverse-reverse back)) grows in
       grown_in_order (map name_of branch) (CanMoveToFront branch) (AreBlockedBy branch) (to_front branch) branch (one.name ∷ []) set grown (in_order branch grown) alike (needed_taken_back branch (reverse back) set grown inverted turned) refl;
   same = λ n there.
       sym (among_kept (is_among grown) (names_of branch) n ∙ ap (λ b. b && is_among grown n) there);
@@ -320,8 +320,8 @@ related_distinct branch name related lawful are =
     subst AreDistinct (map-id (filter passes own) ∙ sym are.are) (distinct_filter (λ n. n) passes own (subst AreDistinct (sym (map-id own)) distinct))
 
 -- the part that belongs to the only patch of a list belongs to the patches of the list
-pub part_alone : (branch : List Catch) (names : List (List ℕ)) (name d : List ℕ) (part : Drawn) → length names ≡ 1 → name ≡ get_or names 0 d → IsPartOfOne branch name part → (graph : Drawn) × IsGraph branch graph × ((pairs : List (List ℕ × List ℕ)) → whole_picture part pairs ≡ drawn_about names (whole_picture graph pairs))
+pub part_alone : (branch : List Catch) (names : List (List ℕ)) (name d : List ℕ) (part : Drawn) → length names ≡ 1 → name ≡ get_or names 0 d → IsPartOfOne branch name part → (graph : Drawn) × IsGraph branch graph × ((pairs : List (List ℕ × List ℕ)) → whole_picture part pairs ≡ graph_part names (whole_picture graph pairs))
 part_alone branch [] name d part one is w = absurd (omega (arith, one))
 part_alone branch (n ∷ []) name d part one is w =
-    (w.0, w.1, λ pairs. w.2 pairs ∙ ap (λ m. drawn_about (m ∷ []) (whole_picture w.0 pairs)) is)
+    (w.0, w.1, λ pairs. w.2 pairs ∙ ap (λ m. graph_part (m ∷ []) (whole_picture w.0 pairs)) is)
 part_alone branch (n ∷ m ∷ rest) name d part one is w = absurd (omega (arith, one))

@@ -1,5 +1,5 @@
 -- Plain patches, inverted one by one.
-use Rattle.camp_questions.proofs.Words.{effect_of, flat_map, ◌≡◌, ℕ, false, List, [], ◌∷◌, ◌++◌, map, refl, sym, ap, ◌∙◌, subst, AllByRecursion, map-append, Catch, is_among, name_of, all_append, AreDistinct, Named, reverse, distinct_append, inverse_of, inverse_all-append, inverse_all-cons, inverse_all, Plain, AreOfPatch, ArePatches, ArePatchesOf, catches_in_order, names_in_order, GrowsToFront, GrowsToGo, IsInverted, AreInverses, HaveRoom, PatchCatches, reverse-cons, flat_map_more, AllZip, none_else}
+use Rattle.camp_questions.proofs.Words.{effect_of, flat_map, ◌≡◌, ℕ, false, List, [], ◌∷◌, ◌++◌, map, refl, sym, ap, ◌∙◌, subst, AllByRecursion, map-append, Catch, is_among, name_of, all_append, AreDistinct, Named, reverse, distinct_append, inverse_of, inverse_all-append, inverse_all-cons, inverse_all, Plain, AreOfPatch, ArePatches, ArePatchesOf, catches_in_order, names_in_order, GrowsToFront, GrowsToTakeOut, IsInverted, AreInverses, HaveRoom, PatchCatches, reverse-cons, flat_map_more, AllZip, none_else}
 use Rattle.camp_questions.proofs.PlainLabels.{plain_effects}
 use Rattle.camp_questions.proofs.TakenBack.{needed_as_held}
 
@@ -96,9 +96,9 @@ reversed patches are = record {
 }
 
 -- the dependents of names in the inverted patches are their dependencies in the list
-pub needed_taken_back : (list : List Catch) (backs : List PatchCatches) (names grown : List (List ℕ)) → IsInverted list backs → GrowsToGo (catches_in_order (reverse backs)) names grown → GrowsToFront list names grown
+pub needed_taken_back : (list : List Catch) (backs : List PatchCatches) (names grown : List (List ℕ)) → IsInverted list backs → GrowsToTakeOut (catches_in_order (reverse backs)) names grown → GrowsToFront list names grown
 needed_taken_back list backs names grown back grows =
-    subst (λ l. GrowsToFront l names grown) (sym back.plain) (needed_as_held back.forth names grown back.room back.room_back (subst (λ l. GrowsToGo l names grown) back.inverses grows))
+    subst (λ l. GrowsToFront l names grown) (sym back.plain) (needed_as_held back.forth names grown back.room back.room_back (subst (λ l. GrowsToTakeOut l names grown) back.inverses grows))
 
 -- plain catches, each inverted
 pub record AreInvertedSoFar (list back : List Catch) : Type 0 where

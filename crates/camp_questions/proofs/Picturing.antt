@@ -1,5 +1,5 @@
 -- Gathers the parts of a graph.
-use Rattle.camp_questions.proofs.Words.{◌≡◌, ◌<◌, ◌+◌, ◌&&◌, ℕ, Bool, true, false, List, [], ◌∷◌, map, filter, drop, length, get_or, refl, sym, ap, ◌∙◌, arith, drop_more, Node, ◌==◌, true≢false, eqb-true, Picture, drawn_about, hangs_on, kept_node, part_with, with_needing, with_needing_one, with_needs, with_needs_of}
+use Rattle.camp_questions.proofs.Words.{◌≡◌, ◌<◌, ◌+◌, ◌&&◌, ℕ, Bool, true, false, List, [], ◌∷◌, map, filter, drop, length, get_or, refl, sym, ap, ◌∙◌, arith, drop_more, Node, ◌==◌, true≢false, eqb-true, Picture, graph_part, is_one_or_neighbour, kept_node, part_with, with_needing, with_needing_one, with_needs, with_needs_of}
 
 -- one more patch of the backward pass adds its dependencies
 pub one_brought : (nodes : List Node) (i at : ℕ) (node d : Node) (names was next : List (List ℕ)) → i + 1 ≡ at → i < length nodes → node ≡ get_or nodes i d → was ≡ with_needs (drop at nodes) names → next ≡ with_needs_of node was → next ≡ with_needs (drop i nodes) names
@@ -21,12 +21,12 @@ part_made keeps others nodes left pairs kept unsettled same are pairs_are =
     ∙ ap (λ f. part_with f (record { patches = nodes; conflicts = pairs; unsettled = unsettled })) (λ i name. same name i)
 
 -- if no patch is named, the whole graph
-pub all_drawn : (names : List (List ℕ)) (whole : Picture) (test : Bool) → test ≡ (length names == 0) → test ≡ true → whole ≡ drawn_about names whole
+pub all_drawn : (names : List (List ℕ)) (whole : Picture) (test : Bool) → test ≡ (length names == 0) → test ≡ true → whole ≡ graph_part names whole
 all_drawn [] whole test counts is = refl
 all_drawn (name ∷ names) whole test counts is =
     let none : length (name ∷ names) ≡ 0 = eqb-true _ _ (sym counts ∙ is) in absurd (omega (arith, none))
 
 -- else the part that belongs to those named
-pub part_drawn : (names : List (List ℕ)) (whole told : Picture) (test : Bool) → test ≡ (length names == 0) → test ≡ false → told ≡ part_with (hangs_on whole.patches names) whole → told ≡ drawn_about names whole
+pub part_drawn : (names : List (List ℕ)) (whole told : Picture) (test : Bool) → test ≡ (length names == 0) → test ≡ false → told ≡ part_with (is_one_or_neighbour whole.patches names) whole → told ≡ graph_part names whole
 part_drawn [] whole told test counts is drawn = absurd (true≢false (sym counts ∙ is))
 part_drawn (name ∷ names) whole told test counts is drawn = drawn

@@ -1,5 +1,5 @@
 -- Makes a file with its hunks, one hunk after the other.
-use Rattle.camp_questions.proofs.Words.{append-nil, ◌≡◌, ◌<◌, ◌≤◌, ℕ, ◌+◌, ◌-◌, Bool, true, false, cond, List, [], ◌∷◌, ◌++◌, drop, filter, get_or, length, map, take, sym, ap, ◌∙◌, append_assoc, drop_more, map-append, Lines, get_or-map, File, MarkedHunk, at_range, differs_within, file_from, hunk_from, range_of, Version, Range, take_more, filter-append, drop_of_length-le, is_within}
+use Rattle.camp_questions.proofs.Words.{append-nil, ◌≡◌, ◌<◌, ◌≤◌, ℕ, ◌+◌, Bool, true, false, cond, List, [], ◌∷◌, ◌++◌, drop, filter, get_or, length, map, take, sym, ap, ◌∙◌, append_assoc, drop_more, map-append, Lines, get_or-map, File, MarkedHunk, at_range, differs_within, file_from, hunk_from, range_of, Version, Range, take_more, filter-append, drop_of_length-le, is_within}
 
 -- a file with hunks before its own
 abbrev pub behind_places : List MarkedHunk → File → File

@@ -1,5 +1,5 @@
 -- Direct dependencies, found by index.
-use Rattle.camp_questions.proofs.Words.{◌≡◌, ◌<◌, ◌≤◌, ◌==◌, ℕ, zero, suc, ◌+◌, ◌-◌, Bool, true, false, not, ◌&&◌, ◌||◌, cond, inl, inr, List, [], ◌∷◌, ◌++◌, filter, map, length, take, drop, get_or, bytes_eq, append-nil, refl, sym, ap, ◌∙◌, subst, and_false, and_true, arith, AllByRecursion, list_any, drop_all, drop_more, filter-append, map-append, take_more, name_itself, AreDistinct, goes_between, needs_directly, needs_other, all_append, cases_eq, cases_order, eq-eqb, ne_eqb, All-filter, All-from_recursion, recursion_from_All, get_or-map, get_or_default, get_or_past, length-map, take_all, filter_image, other_way, Needing, Node, Needed, needing, AreSettled, EndAtOwnIndex, name_at_index, needs_index, node_in, indexes_below}
+use Rattle.camp_questions.proofs.Words.{◌≡◌, ◌<◌, ◌≤◌, ◌==◌, ℕ, zero, suc, ◌+◌, ◌-◌, Bool, true, false, not, ◌&&◌, ◌||◌, cond, inl, inr, List, [], ◌∷◌, ◌++◌, filter, map, length, take, drop, get_or, bytes_eq, append-nil, refl, sym, ap, ◌∙◌, subst, and_false, and_true, arith, AllByRecursion, list_any, drop_all, drop_more, filter-append, map-append, take_more, name_itself, AreDistinct, goes_between, needs_directly, needs_other, all_append, cases_eq, cases_order, eq-eqb, ne_eqb, All-filter, All-from_recursion, recursion_from_All, get_or-map, get_or_default, get_or_past, length-map, take_all, filter_image, other_way, Needing, Node, Needed, needing, NoneBeforeDepends, EndAtOwnIndex, name_at_index, needs_index, node_in, indexes_below}
 use Rattle.camp_questions.proofs.MarkedNames.{among_marked, apart_places}
 use Rattle.camp_questions.proofs.PatchFronts.{all_are}
 
@@ -201,7 +201,7 @@ module _ (names : List (List ℕ)) (all : List Needed) (named : map (λ (p : Nee
         ] refl
 
     -- if no patch before an index removes one of the indexes that are left, they are all
-    pub ends_settled : (in_place : Bool) (places : List ℕ) (left settled : ℕ) → (in_place ≡ true → EndAtOwnIndex all) → left ≤ settled → left ≤ length all → AreSettled in_place places settled → places ≡ filter (left_over names p (drop left all)) (indexes_below (length names)) → places ≡ filter (left_over names p (drop 0 all)) (indexes_below (length names))
+    pub ends_settled : (in_place : Bool) (places : List ℕ) (left settled : ℕ) → (in_place ≡ true → EndAtOwnIndex all) → left ≤ settled → left ≤ length all → NoneBeforeDepends in_place places settled → places ≡ filter (left_over names p (drop left all)) (indexes_below (length names)) → places ≡ filter (left_over names p (drop 0 all)) (indexes_below (length names))
     ends_settled in_place places left settled ends less inside (inl none) so_far =
         let e : left ≡ 0 = omega (arith, less, none) in
         so_far ∙ ap (λ m. filter (left_over names p (drop m all)) (indexes_below (length names))) e

@@ -2,7 +2,7 @@
 -- front of the inverted list.
 use Rattle.camp_prim.proofs.CommuteLaws.{inverse}
 use Rattle.camp_questions.proofs.Words.{inverse_all-append, inverse_all-cons, Catch, Plain, lists_are_unique, arranged_of_parts, at_end, came_plainly, comes_plainly, not_both, one_at_end, room_left, AllByRecursion}
-use Rattle.camp_catch.proofs.Words.{Contains, List, [], ap, append-nil, inl, inr, map, refl, subst, sym, ℕ, ◌++◌, ◌∙◌, ◌∷◌, ◌≡◌, append_assoc, Key, Named, inverse_of, passes_push, room_before, Passes, Precedes, HasRoom, inverse_all, Arrange, ArrangesAfter, IsBlockedAfter}
+use Rattle.camp_catch.proofs.Words.{Contains, List, [], ap, append-nil, inl, inr, map, refl, subst, sym, ℕ, ◌++◌, ◌∙◌, ◌∷◌, ◌≡◌, append_assoc, Key, Named, inverse_of, passes_push, room_before, Passes, CommutesBeforeAll, HasRoom, inverse_all, Arrange, ArrangesAfter, IsBlockedAfter}
 use Rattle.camp_catch.proofs.PlainFronts.{Parted, comes_past_parts, one_more, one_other}
 
 module _ (names others : List (List ℕ)) (within : (name : List ℕ) → Contains others name → Contains names name) where
@@ -46,7 +46,7 @@ what_comes_never_sticks patches names others room within first behind came patch
     walk names others within [] [] patches [] room (refl, refl) first behind came patch on stuck has
 
 -- if k is moved in front of a list, its inverse commutes past the inverted list the other way
-pub passes_back : (s : List Named) (k k' : Named) (s' : List Named) → Precedes s k k' s' → Passes (inverse_of k) (inverse_all s) (inverse_all s') (inverse_of k')
+pub passes_back : (s : List Named) (k k' : Named) (s' : List Named) → CommutesBeforeAll s k k' s' → Passes (inverse_of k) (inverse_all s) (inverse_all s') (inverse_of k')
 passes_back [] k k' s' w = subst (λ l. Passes (inverse_of k) [] (inverse_all l) (inverse_of k')) (sym w.1) (refl, ap inverse_of w.0)
 passes_back (j ∷ s) k k' s' w =
     let rest = passes_back s k w.0 w.2 w.3 in

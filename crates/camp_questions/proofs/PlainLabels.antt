@@ -1,5 +1,5 @@
 -- In a lawful branch with plain catches only no label comes again.
-use Rattle.camp_questions.proofs.Words.{◌≡◌, ◌≢◌, ◌≤◌, ℕ, zero, suc, ◌+◌, true≢false, List, [], ◌∷◌, ◌++◌, map, refl, sym, ap, ◌∙◌, subst, inl, inr, arith, key_of, label_of, Key, Named, AreDistinct, Contains, IsLawfulBranch, Patch, effect_of, flat_map, is_among_is, labels_from, labels_of, patch_names, Contains-append_cases, has_image, first_or_later, has_first, has_later, no_member, Plain, ComeAgainAsInverses, PutsBack, map-map, catch_key}
+use Rattle.camp_questions.proofs.Words.{◌≡◌, ◌≢◌, ◌≤◌, ℕ, zero, suc, ◌+◌, true≢false, List, [], ◌∷◌, ◌++◌, map, refl, sym, ap, ◌∙◌, subst, inl, inr, arith, key_of, label_of, Key, Named, AreDistinct, Contains, IsLawfulBranch, Patch, effect_of, flat_map, is_among_is, labels_from, labels_of, patch_names, Contains-append_cases, has_image, first_or_later, has_first, has_later, no_member, Plain, RepeatsRestoreLines, RestoresLines, map-map, catch_key}
 use Rattle.camp_questions.proofs.KeptElements.{of_each}
 
 -- none of some labels occurs twice
@@ -49,10 +49,10 @@ labels_apart (p ∷ patches) distinct =
 abbrev own_keys : List Named → List Key
 own_keys s = map (λ p. key_of (label_of p)) s
 
-none_again : (s : List Named) → AreApart (own_keys s) → ComeAgainAsInverses s
+none_again : (s : List Named) → AreApart (own_keys s) → RepeatsRestoreLines s
 none_again [] apart = tt
 none_again (p ∷ s) apart = (
-  (λ hunk is. of_each (λ q. key_of (label_of p) ≡ key_of (label_of q) → PutsBack hunk q.prim) s (λ q c same.
+  (λ hunk is. of_each (λ q. key_of (label_of p) ≡ key_of (label_of q) → RestoresLines hunk q.prim) s (λ q c same.
       absurd (apart.0 (subst (Contains (own_keys s)) (sym same) (has_image (λ (r : Named). key_of (label_of r)) s q c))))),
   none_again s apart.1,
 )
@@ -63,6 +63,6 @@ plain_effects [] = refl
 plain_effects (p ∷ s) = ap (λ l. p ∷ l) (plain_effects s)
 
 -- so all labels that come again are inverses
-pub inverses_alone : (s : List Named) → IsLawfulBranch (map Plain s) → ComeAgainAsInverses s
+pub inverses_alone : (s : List Named) → IsLawfulBranch (map Plain s) → RepeatsRestoreLines s
 inverses_alone s lawful =
     none_again s (subst AreApart (sym lawful.has.labels ∙ map-map catch_key Plain s) (labels_apart lawful.patches lawful.has.distinct))

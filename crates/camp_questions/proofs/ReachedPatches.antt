@@ -1,5 +1,5 @@
 -- The dependencies of a patch, found by a walk back from it over the inverted patches.
-use Rattle.camp_questions.proofs.Words.{◌≡◌, ◌<◌, ◌≤◌, ℕ, zero, suc, ◌+◌, ◌-◌, Bool, true, false, not, ◌&&◌, ◌||◌, cond, List, [], ◌∷◌, ◌++◌, bytes_eq, map, length, take, drop, get_or, replicate, None, Some, refl, sym, ap, ◌∙◌, subst, inl, inr, arith, AllByRecursion, length-replicate, take-append-drop, Catch, ArrangesAfter, has_patch, is_among, name_of, all_append, name_itself, or_cases, or_none, or_true, among_others, other_names, among_once, AreHeldIn, CanMoveToFront, CanGo, AreAmong, IsPlain, NeedsThese, set, cases_lt, All-from_recursion, All-get_or, get_or-take, get_or-map, get_or-reverse, get_or-set_same, get_or_append_left, get_or_default, get_or_past, get_or_push, length-map, length-reverse, length-set, length_push, take_all, reverse, inverse_all, PatchCatches, AreApart, ArePatches, catches_in_order, names_in_order, Needed, AreKnown, AreMarkedBelow, AreReached, IsInverted, NeedEach, marked, is_marked, marked_in_both, needing, MoveBeforeAll, AreBlockedAfter, other_way, flat_map-append, append-nil, both_ways}
+use Rattle.camp_questions.proofs.Words.{◌≡◌, ◌<◌, ◌≤◌, ℕ, zero, suc, ◌+◌, ◌-◌, Bool, true, false, not, ◌&&◌, ◌||◌, cond, List, [], ◌∷◌, ◌++◌, bytes_eq, map, length, take, drop, get_or, replicate, None, Some, refl, sym, ap, ◌∙◌, subst, inl, inr, arith, AllByRecursion, length-replicate, take-append-drop, Catch, ArrangesAfter, has_patch, is_among, name_of, all_append, name_itself, or_cases, or_none, or_true, among_others, other_names, among_once, DependsOnTakenOut, CanMoveToFront, CanBeTakenOut, AreAmong, IsPlain, NeedsThese, set, cases_lt, All-from_recursion, All-get_or, get_or-take, get_or-map, get_or-reverse, get_or-set_same, get_or_append_left, get_or_default, get_or_past, get_or_push, length-map, length-reverse, length-set, length_push, take_all, reverse, inverse_all, PatchCatches, AreApart, ArePatches, catches_in_order, names_in_order, Needed, AreKnown, AreMarkedBelow, AreReached, IsInverted, NeedEach, marked, is_marked, marked_in_both, needing, MoveBeforeAll, AreBlockedAfter, other_way, flat_map-append, append-nil, both_ways}
 use Rattle.camp_questions.proofs.Growths.{alone_among}
 use Rattle.camp_questions.proofs.GraphSteps.{AreNeeded, all_needed, none_needed, one_needed}
 use Rattle.camp_questions.proofs.BranchGrowths.{needs_are_determined, needs_come_first, needs_are_least}
@@ -64,7 +64,7 @@ module _ (patches : List PatchCatches) (are : ArePatches patches) where
           subst (λ l. IsWalked all held l (going ++ p.catches.items)) (sym more_done) (walked_on all held (walked_from patches (place + 1)) going walked p.name p.catches.items own_there goes)
 
       -- a patch that can't be moved in front of those that go depends on them
-      pub back_stuck : is_among held p.name ≡ false → AreBlockedAfter p.name going p.catches.items → AreHeldIn all held p.name
+      pub back_stuck : is_among held p.name ≡ false → AreBlockedAfter p.name going p.catches.items → DependsOnTakenOut all held p.name
       back_stuck free stuck =
           held_here all held (walked_from patches (place + 1)) going walked p.name p.catches.items own_there (catches_in_order (drop (index + 1) (reverse patches))) (patches_parted (reverse patches) index p d stands_within stands) free stuck
 
@@ -205,7 +205,7 @@ module _ (branch : List Catch) (patches : List PatchCatches) (inverted : IsInver
         let held = marked names marks in
         let plain_back : IsPlain back = record { patches = inverse_all inverted.forth; are = inverted.inverses; room = inverted.room_back } in
         let sticks = back_stuck patches inverted.are place p p within is held going now.walked (by_place marks place p p within is ∙ free) stuck in
-        let can = subst (λ l. CanGo l others) (sym inverted.inverses) (go_back inverted.forth others (subst (λ l. CanMoveToFront l others) inverted.plain come)) in
+        let can = subst (λ l. CanBeTakenOut l others) (sym inverted.inverses) (go_back inverted.forth others (subst (λ l. CanMoveToFront l others) inverted.plain come)) in
         held_within back others plain_back can held p.name (now.least others n has come) sticks
 
     -- it goes, and its dependencies are marked
@@ -247,7 +247,7 @@ module _ (branch : List Catch) (patches : List PatchCatches) (inverted : IsInver
         let name = get_or names from n in
         let down = walked_down patches inverted.are held place d going (omega (arith, before, inside)) so_far.walked (λ r m less. among_marked names marks r m inverted.are.distinct (omega (arith, less, before, inside, names_long)) ∙ marked_there r (omega (arith, less, all_below))) in
         let can = can_go_then back held (walked_from patches 0) down.0 down.1 (whole_walk patches inverted.are) in
-        let come : CanMoveToFront branch held = subst (λ l. CanMoveToFront l held) (sym inverted.plain) (come_back inverted.forth held (subst (λ l. CanGo l held) inverted.inverses can)) in
+        let come : CanMoveToFront branch held = subst (λ l. CanMoveToFront l held) (sym inverted.plain) (come_back inverted.forth held (subst (λ l. CanBeTakenOut l held) inverted.inverses can)) in
         let own_mark : is_among held name ≡ true = among_marked names marks from n inverted.are.distinct (omega (arith, inside, names_long)) ∙ so_far.itself in
         let needed = needs_are_determined branch (name ∷ []) in
         let has : is_among (map name_of branch) name ≡ true = sym (among_once (map name_of branch) name) ∙ ap (λ l. is_among l name) (sym inverted.names) ∙ there names from n (omega (arith, inside, names_long)) in

@@ -1,7 +1,10 @@
--- Gathers the labels in conflict, from the last catch of a branch to the first.
-use Rattle.camp_questions.proofs.Words.{true≢false, ◌≤◌, ◌+◌, arith, drop, drop_more, get_or, length, take, ◌≡◌, ℕ, suc, Bool, true, false, cond, List, [], ◌∷◌, ◌++◌, map, Option, Some, None, refl, sym, ap, ◌∙◌, subst, none-some, eq_by_cmp, empty, get, get-empty, get-insert, contains_key, insert, find, flat_map, effect_of, Catch, Key, key_cmp, key_total, key_ties, Named, entries, entries_sorted, get-entries, len, values, MatchOption, is_some, slice_get, take_all, found_at, take_push, count_of_members, members_of, AddsAll, AreKeyed, ContextedPatch, ContextedPatches, context_key, with_member, inverse_all-append, inverse_all, AllSeenToo, SeenToo, first_with_key, AreSeen, IsSeen, HaveNoContexted, contexted_in, append-nil, bytes_eq, filter, filter-append, AppendsIf, ComesIfNamed, AppendsEachNew, AppendsNew, IsSideAmong, Equal-is}
+-- Gathers the labels in conflict, from the last catch of a branch to the first conflictor.
+use Rattle.camp_questions.proofs.Words.{true≢false, ◌≤◌, ◌+◌, arith, drop, drop_more, get_or, length, take, ◌≡◌, ℕ, suc, Bool, true, false, cond, List, [], ◌∷◌, ◌++◌, map, Option, Some, None, refl, sym, ap, ◌∙◌, subst, none-some, eq_by_cmp, empty, get, get-empty, get-insert, contains_key, insert, find, flat_map, effect_of, Catch, Key, key_cmp, key_total, key_ties, Named, entries, entries_sorted, get-entries, len, values, MatchOption, is_some, slice_get, take_all, found_at, take_push, count_of_members, members_of, AddsAll, AreKeyed, ContextedPatch, ContextedPatches, context_key, with_member, inverse_all-append, inverse_all, AllGathered, IsGathered, first_with_key, AreSeen, IsSeen, HaveNoContexted, contexted_in, append-nil, bytes_eq, filter, filter-append, AppendsIf, AppendsIfNamed, AppendsEachNew, AppendsNew, IsSideAmong, Equal-is}
+use Rattle.camp_catch.specs.declared.catches.Catch.TheVariants.{Plain}
 use Rattle.camp_catch.specs.declared.catches.Conflictor.{Conflictor}
 use Rattle.camp_ctx.proofs.AddResults.{same_key_of_sum}
+use Rattle.camp_questions.specs.Inside.Seeing.{from_first_conflictor, is_plain_catch}
+use Rattle.std.specs.List.{prefix_len}
 
 -- the entry that was gathered first stays when others follow
 first_stays : (key : Key) (xs : List ContextedPatch) (x : ContextedPatch) (found : Option ContextedPatch) → first_with_key key xs ≡ found → first_with_key key (xs ++ x ∷ []) ≡ cond (is_some found) found (first_with_key key (x ∷ []))
@@ -13,18 +16,18 @@ first_stays key (z ∷ xs) x found is = stays_at (eq_by_cmp key_cmp key (context
     stays_at true is rest = subst (λ o. Some z ≡ cond (is_some o) o (first_with_key key (x ∷ []))) is refl
     stays_at false is rest = rest found is
 
-too_behind : (undone : List Named) (told : Option ContextedPatch) (was seen next : Option ContextedPatch) (one : Option ContextedPatch) → SeenToo undone was told seen → SeenToo undone seen one next → SeenToo undone was (cond (is_some told) told one) next
+too_behind : (undone : List Named) (told : Option ContextedPatch) (was seen next : Option ContextedPatch) (one : Option ContextedPatch) → IsGathered undone was told seen → IsGathered undone seen one next → IsGathered undone was (cond (is_some told) told one) next
 too_behind undone told (Some x) seen next one w v = rw w at v
 too_behind undone (Some x) None seen next one (y, adds, is) v = (y, adds, rw is at v)
 too_behind undone None None seen next one w v = rw w at v
 
 -- one more entry is gathered
-pub one_more_told : (undone : List Named) (xs : List ContextedPatch) (x : ContextedPatch) (was seen next : ContextedPatches) → AllSeenToo undone xs was seen → AllSeenToo undone (x ∷ []) seen next → AllSeenToo undone (xs ++ x ∷ []) was next
+pub one_more_told : (undone : List Named) (xs : List ContextedPatch) (x : ContextedPatch) (was seen next : ContextedPatches) → AllGathered undone xs was seen → AllGathered undone (x ∷ []) seen next → AllGathered undone (xs ++ x ∷ []) was next
 one_more_told undone xs x was seen next w v key =
-    subst (λ o. SeenToo undone (get was key) o (get next key)) (sym (first_stays key xs x (first_with_key key xs) refl)) (too_behind undone (first_with_key key xs) (get was key) (get seen key) (get next key) (first_with_key key (x ∷ [])) (w key) (v key))
+    subst (λ o. IsGathered undone (get was key) o (get next key)) (sym (first_stays key xs x (first_with_key key xs) refl)) (too_behind undone (first_with_key key xs) (get was key) (get seen key) (get next key) (first_with_key key (x ∷ [])) (w key) (v key))
 
 -- a label that is gathered already stays
-kept_at : (undone : List Named) (x : ContextedPatch) (seen : ContextedPatches) (key : Key) (found : Option ContextedPatch) (b : Bool) → get seen key ≡ found → eq_by_cmp key_cmp key (context_key x) ≡ b → is_some (get seen (context_key x)) ≡ true → SeenToo undone found (cond b (Some x) None) (get seen key)
+kept_at : (undone : List Named) (x : ContextedPatch) (seen : ContextedPatches) (key : Key) (found : Option ContextedPatch) (b : Bool) → get seen key ≡ found → eq_by_cmp key_cmp key (context_key x) ≡ b → is_some (get seen (context_key x)) ≡ true → IsGathered undone found (cond b (Some x) None) (get seen key)
 kept_at undone x seen key (Some y) b is same there = is
 kept_at undone x seen key None false is same there = is
 kept_at undone x seen key None true is same there =
@@ -34,7 +37,7 @@ kept_at undone x seen key None true is same there =
     none_there : {A : Type 0} → true ≡ false → A
     none_there e = cc
 
-pub label_kept : (undone : List Named) (x : ContextedPatch) (seen : ContextedPatches) → is_some (get seen (context_key x)) ≡ true → AllSeenToo undone (x ∷ []) seen seen
+pub label_kept : (undone : List Named) (x : ContextedPatch) (seen : ContextedPatches) → is_some (get seen (context_key x)) ≡ true → AllGathered undone (x ∷ []) seen seen
 label_kept undone x seen there key =
     kept_at undone x seen key (get seen key) (eq_by_cmp key_cmp key (context_key x)) refl refl there
 
@@ -43,7 +46,7 @@ none_by : (found : Option ContextedPatch) → is_some found ≡ false → found 
 none_by None e = refl
 none_by (Some x) e = absurd (true≢false e)
 
-come_at : (undone : List Named) (x y : ContextedPatch) (seen next : ContextedPatches) (key : Key) (found : Option ContextedPatch) (b : Bool) → AddsAll undone x y → get seen key ≡ found → eq_by_cmp key_cmp key (context_key x) ≡ b → get seen (context_key x) ≡ None → get next key ≡ cond b (Some y) (get seen key) → SeenToo undone found (cond b (Some x) None) (get next key)
+come_at : (undone : List Named) (x y : ContextedPatch) (seen next : ContextedPatches) (key : Key) (found : Option ContextedPatch) (b : Bool) → AddsAll undone x y → get seen key ≡ found → eq_by_cmp key_cmp key (context_key x) ≡ b → get seen (context_key x) ≡ None → get next key ≡ cond b (Some y) (get seen key) → IsGathered undone found (cond b (Some x) None) (get next key)
 come_at undone x y seen next key (Some z) false adds is same none now = now ∙ is
 come_at undone x y seen next key (Some z) true adds is same none now =
     let own : key ≡ context_key x = key_ties key (context_key x) ((Equal-is _).0 same) in
@@ -51,7 +54,7 @@ come_at undone x y seen next key (Some z) true adds is same none now =
 come_at undone x y seen next key None false adds is same none now = now ∙ is
 come_at undone x y seen next key None true adds is same none now = (y, adds, now)
 
-pub label_comes : (undone : List Named) (x y : ContextedPatch) (seen next : ContextedPatches) → AddsAll undone x y → is_some (get seen (context_key x)) ≡ false → next ≡ with_member seen y → AllSeenToo undone (x ∷ []) seen next
+pub label_comes : (undone : List Named) (x y : ContextedPatch) (seen next : ContextedPatches) → AddsAll undone x y → is_some (get seen (context_key x)) ≡ false → next ≡ with_member seen y → AllGathered undone (x ∷ []) seen next
 label_comes undone x y seen next adds lacks becomes key =
     let none = none_by (get seen (context_key x)) lacks in
     let same_key : context_key y ≡ context_key x = same_key_of_sum undone x y adds in
@@ -70,18 +73,18 @@ members_tell xs keyed key =
     by_index key (entries xs) (λ i k x is. keyed k x (get-entries xs k ∙ found_at key_cmp key_total (entries xs) i k x is (entries_sorted xs))) ∙ sym (get-entries xs key)
 
 -- one more member of the set of a conflictor is gathered
-pub one_member_told : (undone : List Named) (k : Conflictor) (i : ℕ) (x : ContextedPatch) (was seen next : ContextedPatches) → slice_get (members_of k.conflicts) i ≡ Some x → AllSeenToo undone (k.identity ∷ take i (members_of k.conflicts)) was seen → AllSeenToo undone (x ∷ []) seen next
-    → AllSeenToo undone (k.identity ∷ take (i + 1) (members_of k.conflicts)) was next
+pub one_member_told : (undone : List Named) (k : Conflictor) (i : ℕ) (x : ContextedPatch) (was seen next : ContextedPatches) → slice_get (members_of k.conflicts) i ≡ Some x → AllGathered undone (k.identity ∷ take i (members_of k.conflicts)) was seen → AllGathered undone (x ∷ []) seen next
+    → AllGathered undone (k.identity ∷ take (i + 1) (members_of k.conflicts)) was next
 one_member_told undone k i x was seen next at all one =
-    subst (λ l. AllSeenToo undone (k.identity ∷ l) was next) (sym (take_push (members_of k.conflicts) i x at)) (one_more_told undone (k.identity ∷ take i (members_of k.conflicts)) x was seen next all one)
+    subst (λ l. AllGathered undone (k.identity ∷ l) was next) (sym (take_push (members_of k.conflicts) i x at)) (one_more_told undone (k.identity ∷ take i (members_of k.conflicts)) x was seen next all one)
 
 -- after all members, the result is what the conflictor says
-pub conflictor_told : (undone : List Named) (k : Conflictor) (was seen : ContextedPatches) (i n : ℕ) → AreKeyed k.conflicts → n ≡ len k.conflicts → n ≤ i → AllSeenToo undone (k.identity ∷ take i (members_of k.conflicts)) was seen
-    → (key : Key) → SeenToo undone (get was key) (contexted_in (Catch.Conflictor k) key) (get seen key)
+pub conflictor_told : (undone : List Named) (k : Conflictor) (was seen : ContextedPatches) (i n : ℕ) → AreKeyed k.conflicts → n ≡ len k.conflicts → n ≤ i → AllGathered undone (k.identity ∷ take i (members_of k.conflicts)) was seen
+    → (key : Key) → IsGathered undone (get was key) (contexted_in (Catch.Conflictor k) key) (get seen key)
 conflictor_told undone k was seen i n keyed counted past all key =
     let long = count_of_members k.conflicts in
     let whole : take i (members_of k.conflicts) ≡ members_of k.conflicts = take_all i (members_of k.conflicts) (omega arith) in
-    subst (λ o. SeenToo undone (get was key) o (get seen key)) (ap (λ o. cond (eq_by_cmp key_cmp key (context_key k.identity)) (Some k.identity) o) (ap (first_with_key key) whole ∙ members_tell k.conflicts keyed key)) (all key)
+    subst (λ o. IsGathered undone (get was key) o (get seen key)) (ap (λ o. cond (eq_by_cmp key_cmp key (context_key k.identity)) (Some k.identity) o) (ap (first_with_key key) whole ∙ members_tell k.conflicts keyed key)) (all key)
 
 seen_before : (k : Catch) (behind : List Catch) (key : Key) (x : ContextedPatch) → IsSeen behind key x → IsSeen (k ∷ behind) key x
 seen_before k behind key x seen = record {
@@ -96,7 +99,7 @@ seen_before k behind key x seen = record {
 }
 
 one_seen_at : (k : Catch) (behind : List Catch) (key : Key) (was told now : Option ContextedPatch) → contexted_in k key ≡ told → MatchOption was (HaveNoContexted behind key) (IsSeen behind key)
-    → SeenToo (inverse_all (flat_map effect_of behind)) was told now → MatchOption now (HaveNoContexted (k ∷ behind) key) (IsSeen (k ∷ behind) key)
+    → IsGathered (inverse_all (flat_map effect_of behind)) was told now → MatchOption now (HaveNoContexted (k ∷ behind) key) (IsSeen (k ∷ behind) key)
 one_seen_at k behind key (Some x) told now is seen w =
     subst (λ o. MatchOption o (HaveNoContexted (k ∷ behind) key) (IsSeen (k ∷ behind) key)) (sym w) (seen_before k behind key x seen)
 one_seen_at k behind key None None now is seen w =
@@ -115,9 +118,9 @@ one_seen_at k behind key None (Some x) now is seen (y, adds, w) =
 
 -- one more catch is gathered
 pub one_seen : (k : Catch) (behind : List Catch) (seen next : ContextedPatches) (undone : List Named) → undone ≡ inverse_all (flat_map effect_of behind) → AreSeen behind seen
-    → ((key : Key) → SeenToo undone (get seen key) (contexted_in k key) (get next key)) → AreSeen (k ∷ behind) next
+    → ((key : Key) → IsGathered undone (get seen key) (contexted_in k key) (get next key)) → AreSeen (k ∷ behind) next
 one_seen k behind seen next undone is are told key =
-    one_seen_at k behind key (get seen key) (contexted_in k key) (get next key) refl (are key) (subst (λ u. SeenToo u (get seen key) (contexted_in k key) (get next key)) is (told key))
+    one_seen_at k behind key (get seen key) (contexted_in k key) (get next key) refl (are key) (subst (λ u. IsGathered u (get seen key) (contexted_in k key) (get next key)) is (told key))
 
 -- the state of the gathering: the labels of the last catches, and the inverses of their effects
 pub record IsSoFar (catches : List Catch) (undone : List Named) (seen : ContextedPatches) : Type 0 where
@@ -138,12 +141,28 @@ catch_before catches i at k d follows within is =
 
 -- one catch more
 pub one_so_far : (k : Catch) (behind all : List Catch) (undone more : List Named) (seen next : ContextedPatches) → all ≡ k ∷ behind → IsSoFar behind undone seen
-    → ((key : Key) → SeenToo undone (get seen key) (contexted_in k key) (get next key)) → more ≡ undone ++ inverse_all (effect_of k) → IsSoFar all more next
+    → ((key : Key) → IsGathered undone (get seen key) (contexted_in k key) (get next key)) → more ≡ undone ++ inverse_all (effect_of k) → IsSoFar all more next
 one_so_far k behind all undone more seen next is so_far told grows =
     subst (λ l. IsSoFar l more next) (sym is) (record {
       back = grows ∙ ap (λ u. u ++ inverse_all (effect_of k)) so_far.back ∙ sym (inverse_all-append (effect_of k) (flat_map effect_of behind));
       are = one_seen k behind seen next undone so_far.back so_far.are told;
     })
+
+-- ---- plain catches before the first conflictor have no label in conflict
+
+same_without : (undone : List Named) (found : Option ContextedPatch) → IsGathered undone found None found
+same_without undone None = refl
+same_without undone (Some x) = refl
+
+-- what is seen from the first conflictor on is seen in all
+pub seen_in_all : (catches : List Catch) (seen : ContextedPatches) → AreSeen (from_first_conflictor catches) seen → AreSeen catches seen
+seen_in_all [] seen are = are
+seen_in_all (Plain a ∷ catches) seen are =
+    let plain = prefix_len is_plain_catch catches in
+    let more : 1 + plain ≡ suc plain = omega arith in
+    let rest : AreSeen (from_first_conflictor catches) seen = subst (λ n. AreSeen (drop n (Plain a ∷ catches)) seen) more are in
+    one_seen (Plain a) catches seen seen (inverse_all (flat_map effect_of catches)) refl (seen_in_all catches seen rest) (λ key. same_without (inverse_all (flat_map effect_of catches)) (get seen key))
+seen_in_all (Catch.Conflictor k ∷ catches) seen are = are
 
 -- ---- the labels of a patch are appended one after the other
 
@@ -162,7 +181,7 @@ of_name name x = bytes_eq name x.patch.name
 
 -- the labels of a name, with one more
 pub one_comes : (name : List ℕ) (members : List ContextedPatch) (i : ℕ) (x : ContextedPatch) (side next : List Named) → slice_get members i ≡ Some x
-    → AppendsEachNew [] (filter (of_name name) (take i members)) side → ComesIfNamed side name x next → AppendsEachNew [] (filter (of_name name) (take (i + 1) members)) next
+    → AppendsEachNew [] (filter (of_name name) (take i members)) side → AppendsIfNamed side name x next → AppendsEachNew [] (filter (of_name name) (take (i + 1) members)) next
 one_comes name members i x side next at all one =
     let more : filter (of_name name) (take (i + 1) members) ≡ filter (of_name name) (take i members) ++ cond (of_name name x) (x ∷ []) [] =
     ap (filter (of_name name)) (take_push members i x at) ∙ filter-append (of_name name) (take i members) (x ∷ []) in

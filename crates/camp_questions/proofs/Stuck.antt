@@ -1,5 +1,5 @@
 -- What blocks the patches of a branch on their way to its front.
-use Rattle.camp_questions.proofs.Words.{◌≡◌, ℕ, true, false, ◌||◌, List, [], ◌∷◌, ◌++◌, map, bytes_eq, refl, sym, ap, ◌∙◌, subst, inl, inr, map-append, list_any-append, Key, Catch, is_among, name_of, ArrangeIsBlocked, ComesBefore, IsBlockedAfter, StopsAt, is_among_is, not_among, or_true, same_name, keep_labels, or_cases, or_none}
+use Rattle.camp_questions.proofs.Words.{◌≡◌, ℕ, true, false, ◌||◌, List, [], ◌∷◌, ◌++◌, map, bytes_eq, refl, sym, ap, ◌∙◌, subst, inl, inr, map-append, list_any-append, Key, Catch, is_among, name_of, ArrangeIsBlocked, CatchCommutesBeforeAll, IsBlockedAfter, IsBlockedByKey, is_among_is, not_among, or_true, same_name, keep_labels, or_cases, or_none}
 use Rattle.camp_questions.proofs.PatchFronts.{at_first}
 
 -- the names of the patches of some catches
@@ -7,7 +7,7 @@ abbrev names_at : List Catch → List (List ℕ)
 names_at list = map name_of list
 
 -- catches that one commutes past keep their names
-names_stay : (list : List Catch) (k k' : Catch) (list' : List Catch) → ComesBefore list k k' list' → names_at list' ≡ names_at list
+names_stay : (list : List Catch) (k k' : Catch) (list' : List Catch) → CatchCommutesBeforeAll list k k' list' → names_at list' ≡ names_at list
 names_stay [] k k' list' w = ap names_at w.1
 names_stay (j ∷ list) k k' list' w =
     let called = ap (λ (key : Key). key.name) (keep_labels.commuted j w.0 k' w.1 w.4).1 in
@@ -15,7 +15,7 @@ names_stay (j ∷ list) k k' list' w =
     ap names_at w.5 ∙ (λ t. called t ∷ rest t)
 
 -- the catch that blocks another is one of those before it
-stops_at_one : (list : List Catch) (k : Catch) (on : Key) → StopsAt list k on → is_among (names_at list) on.name ≡ true
+stops_at_one : (list : List Catch) (k : Catch) (on : Key) → IsBlockedByKey list k on → is_among (names_at list) on.name ≡ true
 stops_at_one [] k on w = absurd w
 stops_at_one (j ∷ list) k on (inl w) = or_true (bytes_eq on.name (name_of j)) _ (stops_at_one list k on w)
 stops_at_one (j ∷ list) k on (inr w) = at_first (name_of j) (names_at list) on.name (ap (λ (key : Key). key.name) w.4)

@@ -1,5 +1,5 @@
 -- Two changes that commute give the same names to lines in both orders.
-use Rattle.camp_questions.proofs.Words.{◌≡◌, ◌≢◌, ◌≤◌, ℕ, ◌+◌, ◌-◌, Bool, true, false, true≢false, cond, List, [], ◌∷◌, ◌++◌, map, Some, length, take, drop, bytes_eq, refl, sym, ap, ◌∙◌, subst, inl, inr, arith, empty, get, get-insert, insert, same_map, slice_range, splice, eq_by_cmp, bytes_eq-Decides, Edit, key_cmp, key_of, key_ties, key_total, label_of, Key, Named, Primitive, Add, Remove, Hunk, Catch, Known, known_after_catches, known_after_change, known_after_hunk, names_coming, nothing_known, annotated, Annotated, LiesWithin, AreKnownIn, append_assoc, drop_at, length-append, length-take-le, take-append-drop, take_at, drop-drop, Files, Splices, FitsAll, false_from_ne_true, FinMap, SplicesLines, Align, ComesFirst, Plain, Leads, PrimitivesCommute, Commute, at_line, path_of, cut_run, equivalent_run, AppliesAll, Annotates, own_names, AnnotateAlike, OrderKeepsNames, tree_of_effects, BothPlain, CommuteCatch}
+use Rattle.camp_questions.proofs.Words.{◌≡◌, ◌≢◌, ◌≤◌, ℕ, ◌+◌, ◌-◌, Bool, true, false, true≢false, cond, List, [], ◌∷◌, ◌++◌, map, Some, length, take, drop, bytes_eq, refl, sym, ap, ◌∙◌, subst, inl, inr, arith, empty, get, get-insert, insert, same_map, slice_range, splice, eq_by_cmp, bytes_eq-Decides, Edit, key_cmp, key_of, key_ties, key_total, label_of, Key, Named, Primitive, Add, Remove, Hunk, Catch, Known, known_after_catches, known_after_change, known_after_hunk, new_line_names, nothing_known, annotated, Annotated, LiesWithin, AreKnownIn, append_assoc, drop_at, length-append, length-take-le, take-append-drop, take_at, drop-drop, Files, Splices, FitsAll, false_from_ne_true, FinMap, SplicesLines, Align, CatchMovesToFront, Plain, Leads, PrimitivesCommute, Commute, at_line, path_of, cut_run, equivalent_run, AppliesAll, Annotates, own_names, AnnotateAlike, OrderKeepsNames, tree_of_effects, BothPlain, CommuteCatch}
 use Rattle.camp_prim.proofs.HunksOfOneFile.{SplicesTwice, lower_first, upper_first}
 use Rattle.camp_seq.proofs.ExchangeSteps.{shared}
 use Rattle.camp_seq.proofs.ListEquivalence.{after_one, swapped}
@@ -49,13 +49,13 @@ module _ (names gone coming after : List (List ℕ)) (line count : ℕ) (put : S
 
 -- the state after a hunk, given the names that it removes and adds
 behind_is : (name : List ℕ) (key : Key) (hunk : Edit) (known : Known) (gone coming after : List (List ℕ)) → SplicesLines hunk.line gone coming known.names after → length gone ≡ length hunk.old
-    → names_coming (get known.taken key) (own_names gone name hunk) (length hunk.new) ≡ coming → known_after_hunk name key hunk known ≡ record { names = after; taken = insert known.taken key gone }
+    → new_line_names (get known.taken key) (own_names gone name hunk) (length hunk.new) ≡ coming → known_after_hunk name key hunk known ≡ record { names = after; taken = insert known.taken key gone }
 behind_is name key hunk known gone coming after put many comes =
     let from : ℕ = hunk.line - 1 in
     let to : ℕ = from + length hunk.old in
     let go : slice_range known.names from to ≡ gone = gone_is known.names gone coming after hunk.line (length hunk.old) put many in
-    let become : splice known.names from to (names_coming (get known.taken key) (own_names (slice_range known.names from to) name hunk) (length hunk.new)) ≡ after =
-    ap (λ g. splice known.names from to (names_coming (get known.taken key) (own_names g name hunk) (length hunk.new))) go ∙ ap (splice known.names from to) comes ∙ after_is known.names gone coming after hunk.line (length hunk.old) put many in
+    let become : splice known.names from to (new_line_names (get known.taken key) (own_names (slice_range known.names from to) name hunk) (length hunk.new)) ≡ after =
+    ap (λ g. splice known.names from to (new_line_names (get known.taken key) (own_names g name hunk) (length hunk.new))) go ∙ ap (splice known.names from to) comes ∙ after_is known.names gone coming after hunk.line (length hunk.old) put many in
     λ i. record { names = become i; taken = insert known.taken key (go i) }
 
 abbrev gone_at : Known → Edit → List (List ℕ)
@@ -63,7 +63,7 @@ gone_at known hunk = slice_range known.names (hunk.line - 1) (hunk.line - 1 + le
 
 abbrev coming_at : List ℕ → Key → Edit → Known → List (List ℕ)
 coming_at name key hunk known =
-    names_coming (get known.taken key) (own_names (gone_at known hunk) name hunk) (length hunk.new)
+    new_line_names (get known.taken key) (own_names (gone_at known hunk) name hunk) (length hunk.new)
 
 -- a hunk replaces the names that it removes by those that it adds
 puts_names : (name : List ℕ) (key : Key) (hunk : Edit) (known : Known) → 1 ≤ hunk.line → LiesWithin hunk known → SplicesLines hunk.line (gone_at known hunk) (coming_at name key hunk known) known.names (known_after_hunk name key hunk known).names
@@ -111,8 +111,8 @@ module _ (n m : List ℕ) (a b : Key) (apart : a ≢ b) where
       let many' : length gone' ≡ length k.old = gone_count k next within' in
       let t = turn gone coming gone' coming' known.names after many (coming_count n a h known within) many' (coming_count m b k next within')
       (record { between = next.names; first = puts_names n a h known line within; second = puts_names m b k next line' within' }) in
-      let kept' : names_coming (get known.taken b) (own_names gone' m k) (length k.new) ≡ coming' = ap (λ o. names_coming o (own_names gone' m k) (length k.new)) (sym (kept_apart known.taken a b gone apart)) in
-      let kept : names_coming (get (insert known.taken b gone') a) (own_names gone n h) (length h.new) ≡ coming = ap (λ o. names_coming o (own_names gone n h) (length h.new)) (kept_apart known.taken b a gone' (λ e. apart (sym e))) in
+      let kept' : new_line_names (get known.taken b) (own_names gone' m k) (length k.new) ≡ coming' = ap (λ o. new_line_names o (own_names gone' m k) (length k.new)) (sym (kept_apart known.taken a b gone apart)) in
+      let kept : new_line_names (get (insert known.taken b gone') a) (own_names gone n h) (length h.new) ≡ coming = ap (λ o. new_line_names o (own_names gone n h) (length h.new)) (kept_apart known.taken b a gone' (λ e. apart (sym e))) in
       let between : Known = record { names = t.between; taken = insert known.taken b gone' } in
       let first : known_after_hunk m b (at_line at_first k) known ≡ between = behind_is m b (at_line at_first k) known gone' coming' t.between t.first many' kept' in
       let second : known_after_hunk n a (at_line at_second h) between ≡ record { names = after; taken = insert (insert known.taken b gone') a gone } = behind_is n a (at_line at_second h) between gone coming after t.second many kept in
@@ -215,7 +215,7 @@ tell_alike patches others e path told =
     (half patches others path told e, half others patches path told (backwards e))
 
 -- a plain patch that comes first
-first_plainly : (key : Key) (s : List Named) (k : Catch) (others : List Catch) → ComesFirst key (map Plain s) k others → (p : Named) × (t : List Named) × (s ~ (p ∷ t)) × (k ≡ Plain p) × (others ≡ map Plain t)
+first_plainly : (key : Key) (s : List Named) (k : Catch) (others : List Catch) → CatchMovesToFront key (map Plain s) k others → (p : Named) × (t : List Named) × (s ~ (p ∷ t)) × (k ≡ Plain p) × (others ≡ map Plain t)
 first_plainly key [] k others w = absurd w
 first_plainly key (j ∷ s) k others (inl w) = (j, s, same, w.1, w.2)
 first_plainly key (j ∷ s) k others (inr w) =

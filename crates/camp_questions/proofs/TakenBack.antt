@@ -1,5 +1,5 @@
 -- The dependencies of plain patches are their dependents in the inverted list.
-use Rattle.camp_questions.proofs.Words.{◌≡◌, ℕ, Bool, true, false, true≢false, ◌||◌, List, [], ◌∷◌, ◌++◌, map, bytes_eq, refl, sym, ap, ◌∙◌, subst, AllByRecursion, map-append, list_any-append, Arrange, Catch, has_patch, is_among, name_of, is_among_is, or_true, Named, other_names, AreHeldIn, CanGo, CanMoveToFront, AreBlockedBy, AreAmong, IsPlain, inverse_of, inverse_all-cons, inverse_all-inverse_all, inverse_all, Plain, GrowsToFront, GrowsToGo, not, ◌&&◌, among_others, or_comm, or_none, true_from_ne_false, HasRoom, both_ways}
+use Rattle.camp_questions.proofs.Words.{◌≡◌, ℕ, Bool, true, false, true≢false, ◌||◌, List, [], ◌∷◌, ◌++◌, map, bytes_eq, refl, sym, ap, ◌∙◌, subst, AllByRecursion, map-append, list_any-append, Arrange, Catch, has_patch, is_among, name_of, is_among_is, or_true, Named, other_names, DependsOnTakenOut, CanBeTakenOut, CanMoveToFront, AreBlockedBy, AreAmong, IsPlain, inverse_of, inverse_all-cons, inverse_all-inverse_all, inverse_all, Plain, GrowsToFront, GrowsToTakeOut, not, ◌&&◌, among_others, or_comm, or_none, true_from_ne_false, HasRoom, both_ways}
 use Rattle.camp_questions.proofs.PlainGoing.{IsEither, comes_taken_back}
 use Rattle.camp_questions.proofs.BranchGrowths.{to_front, to_go, stops_within}
 use Rattle.camp_questions.proofs.Growths.{all_done, all_within, among_first, are_added}
@@ -46,31 +46,31 @@ module _ (branch : List Catch) (names : List (List ℕ)) where
       parted (other_names branch names) names p (twice (is_among names p.name) ∙ ap not (sym (stays_if p has)))
 
 -- names can be taken out of the inverted list exactly if they can be moved to the front of the list
-pub come_back : (forth : List Named) (names : List (List ℕ)) → CanGo (map Plain (inverse_all forth)) names → CanMoveToFront (map Plain forth) names
+pub come_back : (forth : List Named) (names : List (List ℕ)) → CanBeTakenOut (map Plain (inverse_all forth)) names → CanMoveToFront (map Plain forth) names
 come_back forth names can =
     let back : List Catch = map Plain (inverse_all forth) in
     let come = others_come back names can in
     let taken = comes_taken_back names (other_names back names) (inverse_all forth) (all_are (goes_or_stays back names) (inverse_all forth) (own_primitives (inverse_all forth))) come.0 come.1 come.2 in
     (taken.0, taken.1, subst (λ l. Arrange names (map Plain l) taken.0 taken.1) (inverse_all-inverse_all forth) taken.2)
 
-pub go_back : (forth : List Named) (names : List (List ℕ)) → CanMoveToFront (map Plain forth) names → CanGo (map Plain (inverse_all forth)) names
+pub go_back : (forth : List Named) (names : List (List ℕ)) → CanMoveToFront (map Plain forth) names → CanBeTakenOut (map Plain (inverse_all forth)) names
 go_back forth names come =
     let back : List Catch = map Plain (inverse_all forth) in
     let own = all_are (λ p has. sym (same_names forth p.name) ∙ has) forth (own_primitives forth) in
     can_go back names (comes_taken_back (other_names back names) names forth (all_are (stays_or_goes back names) forth own) come.0 come.1 come.2)
 
 -- the dependents of names in the inverted list are their dependencies in the list
-pub needed_as_held : (forth : List Named) (names grown : List (List ℕ)) → HasRoom forth → HasRoom (inverse_all forth) → GrowsToGo (map Plain (inverse_all forth)) names grown → GrowsToFront (map Plain forth) names grown
+pub needed_as_held : (forth : List Named) (names grown : List (List ℕ)) → HasRoom forth → HasRoom (inverse_all forth) → GrowsToTakeOut (map Plain (inverse_all forth)) names grown → GrowsToFront (map Plain forth) names grown
 needed_as_held forth names grown room room_back grows =
     let branch : List Catch = map Plain forth in
     let back : List Catch = map Plain (inverse_all forth) in
     let all = names ++ grows.0 in
-    let come = come_back forth all (all_done (map name_of back) (CanGo back) (AreHeldIn back) (to_go back) names grows.0 grows.1) in
+    let come = come_back forth all (all_done (map name_of back) (CanBeTakenOut back) (DependsOnTakenOut back) (to_go back) names grows.0 grows.1) in
     let more = are_added (map name_of branch) (CanMoveToFront branch) (AreBlockedBy branch) (to_front branch) names in
     let needed = names ++ more.0 in
     let can = go_back forth needed (all_done (map name_of branch) (CanMoveToFront branch) (AreBlockedBy branch) (to_front branch) names more.0 more.1) in
     let plain : IsPlain branch = record { patches = forth; are = refl; room = room } in
     let plain_back : IsPlain back = record { patches = inverse_all forth; are = refl; room = room_back } in
-    let within : AreAmong all needed = all_within (CanGo back) (AreHeldIn back) needed (held_within back needed plain_back can) names grows.0 (among_first names more.0) grows.1 in
+    let within : AreAmong all needed = all_within (CanBeTakenOut back) (DependsOnTakenOut back) needed (held_within back needed plain_back can) names grows.0 (among_first names more.0) grows.1 in
     let within_all : AreAmong needed all = all_within (CanMoveToFront branch) (AreBlockedBy branch) all (stops_within branch all plain come) names more.0 (among_first names grows.0) more.1 in
     (more.0, more.1, λ n. grows.2 n ∙ both_ways (is_among all n) (is_among needed n) (within n) (within_all n))

@@ -1,5 +1,5 @@
 -- One pass over patches: the dependents go, and the others are moved in front of them.
-use Rattle.camp_questions.proofs.Words.{or_none, ◌≡◌, ℕ, true, false, not, ◌&&◌, ◌||◌, List, [], ◌∷◌, ◌++◌, map, Err, bytes_eq, get_or, length, take, drop, take_more, arith, zero, suc, ◌+◌, ◌<◌, ◌≤◌, refl, sym, ap, ◌∙◌, subst, inl, inr, insert, keys, Catch, ArrangesAfter, IsBlockedAfter, AllByRecursion, has_patch, is_among, name_of, all_append, name_itself, or_parts, or_true, among_others, other_names, AreHeldIn, CanGo, ObliterateGives, take_all, All-from_recursion, All-get_or, Names, PatchCatches, AreApart, AreOfPatch, ArePatches, catches_in_order, names_in_order, GrowsToGo, MoveBeforeAll, AreBlockedAfter, take-append-drop, flat_map-append, drop_more, Depends}
+use Rattle.camp_questions.proofs.Words.{or_none, ◌≡◌, ℕ, true, false, not, ◌&&◌, ◌||◌, List, [], ◌∷◌, ◌++◌, map, Err, bytes_eq, get_or, length, take, drop, take_more, arith, zero, suc, ◌+◌, ◌<◌, ◌≤◌, refl, sym, ap, ◌∙◌, subst, inl, inr, insert, keys, Catch, ArrangesAfter, IsBlockedAfter, AllByRecursion, has_patch, is_among, name_of, all_append, name_itself, or_parts, or_true, among_others, other_names, DependsOnTakenOut, CanBeTakenOut, ObliterateGives, take_all, All-from_recursion, All-get_or, Names, PatchCatches, AreApart, AreOfPatch, ArePatches, catches_in_order, names_in_order, GrowsToTakeOut, MoveBeforeAll, AreBlockedAfter, take-append-drop, flat_map-append, drop_more, Depends}
 use Rattle.camp_questions.proofs.PatchesBack.{catches-append}
 use Rattle.camp_questions.proofs.BranchGrowths.{to_go}
 use Rattle.camp_questions.proofs.Growing.{IsGrownSoFar, all_grown, none_grown, one_grown, one_more}
@@ -48,7 +48,7 @@ module _ (all : List Catch) where
     }
 
     -- a patch that can't be moved in front of those that go is a dependent
-    pub held_here : (rest : List Catch) → all ≡ done ++ (list ++ rest) → is_among held name ≡ false → AreBlockedAfter name going list → AreHeldIn all held name
+    pub held_here : (rest : List Catch) → all ≡ done ++ (list ++ rest) → is_among held name ≡ false → AreBlockedAfter name going list → DependsOnTakenOut all held name
     held_here rest parts free stuck =
         let alike = sticks_alike (name ∷ []) (other_names all held) going list stuck.0 stuck.1 (agree held name list free are) stuck.2 in
         let whole = sticks_further (other_names all held) [] done (list ++ rest) walked.first going stuck.0 stuck.1 walked.arranged (still_sticks (other_names all held) going list rest stuck.0 stuck.1 alike) in
@@ -69,19 +69,19 @@ module _ (all : List Catch) where
   }
 
   -- at the end all others are in front
-  pub can_go_then : (held : List (List ℕ)) (done going : List Catch) → IsWalked held done going → done ≡ all → CanGo all held
+  pub can_go_then : (held : List (List ℕ)) (done going : List Catch) → IsWalked held done going → done ≡ all → CanBeTakenOut all held
   can_go_then held done going walked whole =
       (walked.first, inl (walked.first, going, subst (λ l. ArrangesAfter (other_names all held) [] l walked.first going) whole walked.arranged, refl))
 
   -- the names inserted so far, and the patches up to here have been visited
   pub record IsGrown (names held : List (List ℕ)) (done going : List Catch) : Type 0 where
     pub walked : IsWalked held done going
-    pub grown : IsGrownSoFar (CanGo all) (AreHeldIn all) names held
+    pub grown : IsGrownSoFar (CanBeTakenOut all) (DependsOnTakenOut all) names held
 
   pub none_held : (names : List (List ℕ)) → IsGrown names names [] []
   none_held names = record {
     walked = record { first = []; arranged = (refl, refl) };
-    grown = none_grown (map name_of all) (CanGo all) (AreHeldIn all) (to_go all) names;
+    grown = none_grown (map name_of all) (CanBeTakenOut all) (DependsOnTakenOut all) (to_go all) names;
   }
 
   -- a patch that can't be moved in front of those that go is added to them, and its name is inserted
@@ -93,12 +93,12 @@ module _ (all : List Catch) where
       let now = walked_alike held (keys next) done going alike so_far.walked in
       record {
         walked = walked_on (keys next) done going now name list are (more name ∙ or_true (is_among held name) (bytes_eq name name) (name_itself name));
-        grown = one_grown (map name_of all) (CanGo all) (AreHeldIn all) (to_go all) names set next name so_far.grown (held_here held done going so_far.walked name list are rest parts free stuck) becomes;
+        grown = one_grown (map name_of all) (CanBeTakenOut all) (DependsOnTakenOut all) (to_go all) names set next name so_far.grown (held_here held done going so_far.walked name list are rest parts free stuck) becomes;
       }
 
-  pub all_held : (names held : List (List ℕ)) (done going : List Catch) → IsGrown names held done going → done ≡ all → GrowsToGo all names held
+  pub all_held : (names held : List (List ℕ)) (done going : List Catch) → IsGrown names held done going → done ≡ all → GrowsToTakeOut all names held
   all_held names held done going so_far whole =
-      all_grown (map name_of all) (CanGo all) (AreHeldIn all) (to_go all) names held so_far.grown (can_go_then held done going so_far.walked whole)
+      all_grown (map name_of all) (CanBeTakenOut all) (DependsOnTakenOut all) (to_go all) names held so_far.grown (can_go_then held done going so_far.walked whole)
 
 -- a branch has the patches of its catches
 pub all_there : (list : List Catch) → AllByRecursion (λ k. has_patch list (name_of k) ≡ true) list
@@ -182,6 +182,6 @@ module _ (patches : List PatchCatches) (are : ArePatches patches) (i : ℕ) (p d
         subst (λ l. IsGrown whole names (keys next) l (going ++ p.catches.items)) (sym (one_more_done patches i p d within is)) (one_held whole names set next done going p.catches.items (catches_in_order (drop (i + 1) patches)) p.name so_far there_of (patches_parted patches i p d within is) apart free stuck becomes)
 
 -- all patches have been visited
-pub past_all : (patches : List PatchCatches) (i : ℕ) (names held : List (List ℕ)) (going : List Catch) → length patches ≤ i → IsGrown (catches_in_order patches) names held (catches_in_order (take i patches)) going → GrowsToGo (catches_in_order patches) names held
+pub past_all : (patches : List PatchCatches) (i : ℕ) (names held : List (List ℕ)) (going : List Catch) → length patches ≤ i → IsGrown (catches_in_order patches) names held (catches_in_order (take i patches)) going → GrowsToTakeOut (catches_in_order patches) names held
 past_all patches i names held going past so_far =
     all_held (catches_in_order patches) names held (catches_in_order (take i patches)) going so_far (ap catches_in_order (take_all i patches past))

@@ -17,7 +17,7 @@ pub use Rattle.camp_branch.proofs.NamesKept.{among_kept, among_once, among_other
 pub use Rattle.camp_branch.specs.Branches.{first_lacked, AreDistinct, HasPatches, IsLawfulBranch, LeadsTo, Patch, has_patch, is_among, labels_from, labels_of, name_of, names_of, patch_names, recorded, IsSized}
 pub use Rattle.camp_branch.specs.Conflicting.{AreConflicts}
 pub use Rattle.camp_branch.specs.Fields.{names_in, has_name}
-pub use Rattle.camp_catch.specs.Arranging.{Arrange, ArrangeIsBlocked, ArrangesAfter, ComesBefore, IsBlockedAfter, StopsAt, Align, ComesFirst, DoNotCommute, IsOf}
+pub use Rattle.camp_catch.specs.Arranging.{Arrange, ArrangeIsBlocked, ArrangesAfter, CatchCommutesBeforeAll, IsBlockedAfter, IsBlockedByKey, Align, CatchMovesToFront, DoNotCommute, IsOf}
 pub use Rattle.camp_catch.specs.Catches.{FitsAll, effect_of, IsSeenFrom, catch_key}
 pub use Rattle.camp_catch.specs.declared.catches.Catch.{Catch}
 pub use Rattle.camp_object.specs.declared.objects.Decided.TheVariants.{Answer, Next}
@@ -32,12 +32,12 @@ pub use Rattle.camp_questions.specs.Answers.{AnswerOf, ReportsAnswer, OfBranch, 
 pub use Rattle.camp_questions.specs.Inside.Finding.{IsFound}
 pub use Rattle.camp_questions.specs.declared.annotations.Annotated.{Annotated}
 pub use Rattle.camp_questions.specs.declared.faults.Unanswered.{Unanswered}
-pub use Rattle.camp_questions.specs.Annotations.{Known, annotated, known_after_all, known_after_catches, known_after_change, known_after_hunk, names_coming, names_of_lines, nothing_known, Annotates, own_names}
-pub use Rattle.camp_questions.specs.Dependencies.{AreAdded, AreGrown, AreHeldIn, CanGo, CanMoveToFront, HeldBy, Needs, AreBlockedBy, in_order}
+pub use Rattle.camp_questions.specs.Annotations.{Known, annotated, known_after_all, known_after_catches, known_after_change, known_after_hunk, new_line_names, names_of_lines, nothing_known, Annotates, own_names}
+pub use Rattle.camp_questions.specs.Dependencies.{AreAdded, AreGrown, DependsOnTakenOut, CanBeTakenOut, CanMoveToFront, HeldBy, Needs, AreBlockedBy, in_order}
 pub use Rattle.camp_questions.specs.Differences.{IsMissing, missing_in}
 pub use Rattle.camp_questions.specs.Graphs.{Drawn, IsGraph, Needing, NeedsThese, goes_between, needs_directly, needs_other, node_of}
 pub use Rattle.camp_questions.specs.Inside.Graphing.{NeedEach, needing, AreKnown, AreMarkedBelow, AreReached, IsInverted, marked, marked_in_both}
-pub use Rattle.camp_questions.specs.Inside.Walking.{AppliesOn, AreKnownIn, FollowsOn, LiesWithin, kept_in, known_in, lines_or_none}
+pub use Rattle.camp_questions.specs.Inside.Walking.{AppliesWithNames, AreKnownIn, EffectAppliesWithNames, LiesWithin, kept_in, known_in, lines_or_none}
 pub use Rattle.camp_questions.specs.Showing.{changes_of, patch_in, changes_in}
 pub use Rattle.camp_questions.specs.declared.graphs.Node.{Node}
 pub use Rattle.camp_repo.proofs.ByMembers.{AreAlike, obliterate_alike}
@@ -50,7 +50,7 @@ pub use Rattle.camp_branch.specs.Laws.{ExactlyOne, AppliesEach}
 pub use Rattle.camp_branch.specs.Obliterating.{ObliterateGives, other_names}
 pub use Rattle.camp_prim.specs.Effect.{Applies, flipped, InRange, Leads, inverse_of}
 pub use Rattle.camp_questions.specs.GraphTexts.{arrow_text, conflict_text, node_text}
-pub use Rattle.camp_questions.specs.Laws.{AreAmong, Arrow, ArrowsAreDirectNeeds, GrewFrom, HeldCanGo, HeldIsDetermined, IsPlain, IsReached, LinesHaveNames, MissingIsPulled, NeedsAreDetermined, NeedsAreLeast, NeedsAreReached, NeedsComeFirst, NeedsDirectly, NeedsPatch, RecordedIsShown, WasMet, along, itself, AlongIsEnough, AnnotateAlike, ArrowsLeadBackwards, ComeAgainAsInverses, EachIsBrought, ForeseenComes, HangTogether, HeldIsLeast, IsBrought, KeepFilesShort, LinesAreBrought, NeedsAndHeldAreOne, NeedsCanBePulled, OrderKeepsNames, PartsAreReached, PutsBack, SidesApply, SidesAreAccepted, StandsBefore}
+pub use Rattle.camp_questions.specs.Laws.{AreAmong, Arrow, ArrowsAreDirectNeeds, GrewFrom, HeldCanBeTakenOut, HeldIsDetermined, IsPlain, IsReached, LinesHaveNames, MissingIsPulled, NeedsAreDetermined, NeedsAreLeast, NeedsAreReached, NeedsComeFirst, NeedsDirectly, NeedsPatch, RecordedIsShown, WasAddedOnWay, along, itself, AlongIsEnough, AnnotateAlike, ArrowsLeadBackwards, RepeatsRestoreLines, EachIsAddedByPatch, ForeseenHappens, IsConnected, HeldIsLeast, IsAddedByPatch, KeepFilesShort, LinesAreAddedByPatches, NeedsAndHeldAreOne, NeedsCanBePulled, OrderKeepsNames, PartsAreReached, RestoresLines, SidesApply, SidesAreAccepted, NameComesBefore}
 pub use Rattle.camp_repo.proofs.DecideSteps.{conflicts_shown, pull_nothing, tree_shown}
 pub use Rattle.camp_repo.proofs.NameSteps.{none_lacked}
 pub use Rattle.std.proofs.lemmas.Bool.{cases_Bool, and_from, and_parts, eq-eqb, eqb-false, eqb-true, not-true, or_cases, cases_eq, cases_lt, cases_order, cond_both, false_from_ne_true, ne_eqb, or_from, true_from_ne_false}
@@ -64,8 +64,8 @@ pub use Rattle.camp_branch.specs.declared.faults.Blocked.TheVariants.{Depends}
 pub use Rattle.camp_call.specs.declared.replies.Refusal.{Refusal}
 pub use Rattle.camp_call.specs.declared.replies.Refusal.TheVariants.{DoesNotApply, NoBranch, NoPatch, NothingToDo, PatchExists, TooLarge}
 pub use Rattle.camp_catch.proofs.KeptLabels.{keep_labels}
-pub use Rattle.camp_catch.proofs.ListResults.{arrange_by_members, lists_are_unique, lists_succeed_or_stick}
-pub use Rattle.camp_catch.proofs.PlainArranging.{arranged_of_parts, at_end, came_plainly, comes_plainly, fronts_come_behind_fronts, not_both, one_at_end, room_left, what_stops_comes_along}
+pub use Rattle.camp_catch.proofs.ListResults.{arrange_by_members, lists_are_unique, lists_succeed_or_are_blocked}
+pub use Rattle.camp_catch.proofs.PlainArranging.{arranged_of_parts, at_end, came_plainly, comes_plainly, fronts_follow_fronts, not_both, one_at_end, room_left, blockers_are_included}
 pub use Rattle.camp_catch.specs.Laws.{KeysPart, keys_of}
 pub use Rattle.camp_catch.specs.declared.catches.Catch.TheVariants.{Plain}
 pub use Rattle.camp_ctx.proofs.EntrySteps.{found_at, take_push}
@@ -73,26 +73,26 @@ pub use Rattle.camp_ctx.proofs.SetSteps.{count_of_members, members_of}
 pub use Rattle.camp_ctx.specs.Adding.{AddsToContext, AddsAll, commute}
 pub use Rattle.camp_ctx.specs.Contexts.{AreKeyed, AreValid, ContextedPatch, ContextedPatches, Valid, bare, context_key, whole, with_member}
 pub use Rattle.camp_prim.specs.Commuting.{Commute, PrimitivesCommute, at_line, path_of}
-pub use Rattle.camp_questions.specs.CommonLines.{brought_by, common_end, common_front}
+pub use Rattle.camp_questions.specs.CommonLines.{added_by, common_end, common_front}
 pub use Rattle.camp_questions.specs.Inside.ByPatch.{AreApart, AreOfPatch, ArePatches, ArePatchesOf, catches_in_order, names_in_order, until_next}
-pub use Rattle.camp_questions.specs.Inside.ByIndex.{AreSettled, EndAtOwnIndex, name_at_index, needs_index, node_in, indexes_below}
-pub use Rattle.camp_questions.specs.Inside.ChangedFiles.{AreFilesOf, AreMarkedToo, GoMarked, IsMarkedPlain, IsPlainInRange, file_number, how_many, is_marked, hash_after, number_of, HasFiles}
-pub use Rattle.camp_questions.specs.Inside.Growing.{Grows, GrowsToFront, GrowsToGo}
+pub use Rattle.camp_questions.specs.Inside.ByIndex.{NoneBeforeDepends, EndAtOwnIndex, name_at_index, needs_index, node_in, indexes_below}
+pub use Rattle.camp_questions.specs.Inside.ChangedFiles.{AreFilesOf, BecomeMarked, HasMarkedFiles, IsMarkedPlain, IsPlainInRange, path_hash, hash_count, is_marked, hash_after, catch_hash, HasFiles}
+pub use Rattle.camp_questions.specs.Inside.Growing.{Grows, GrowsToFront, GrowsToTakeOut}
 pub use Rattle.camp_questions.specs.Inside.Moving.{HunkCommutesPast, hunk_at}
-pub use Rattle.camp_questions.specs.Inside.Seeing.{AllSeenToo, AppendsIf, ComesIfNamed, SeenToo, first_with_key}
-pub use Rattle.camp_questions.specs.Inside.Independence.{AllStay, MoveBeforeAll, IsIndependent, AreBlockedAfter}
+pub use Rattle.camp_questions.specs.Inside.Seeing.{AllGathered, AppendsIf, AppendsIfNamed, IsGathered, first_with_key}
+pub use Rattle.camp_questions.specs.Inside.Independence.{AllCommuteUnchanged, MoveBeforeAll, IsIndependent, AreBlockedAfter}
 pub use Rattle.camp_questions.specs.Inside.Reporting.{IsReported}
-pub use Rattle.camp_questions.specs.Inside.TakingBack.{AreInverses, HaveRoom}
+pub use Rattle.camp_questions.specs.Inside.Inverting.{AreInverses, HaveRoom}
 pub use Rattle.camp_questions.specs.Marks.{AreVersions, MakesVersion, MarksAt, is_in_pair, names_in_pairs, with_made}
-pub use Rattle.camp_questions.specs.OpenConflicts.{AreOpenAmong, AreOpenIn, OpensWith, is_open}
-pub use Rattle.camp_questions.specs.Pictures.{Picture, drawn_about, hangs_on, kept_node, part_with, whole_picture, with_needing, with_needing_one, with_needs, with_needs_of}
-pub use Rattle.camp_questions.specs.Places.{File, MarkedHunk, at_range, differs_within, file_from, is_within, union_of, hunk_from, range_of, touch, with_marks, with_range}
+pub use Rattle.camp_questions.specs.OpenConflicts.{AreUnresolvedAmong, AreUnresolvedIn, IsUnresolvedWith, is_unresolved}
+pub use Rattle.camp_questions.specs.Pictures.{Picture, graph_part, is_one_or_neighbour, kept_node, part_with, whole_picture, with_needing, with_needing_one, with_needs, with_needs_of}
+pub use Rattle.camp_questions.specs.MarkHunks.{File, MarkedHunk, at_range, differs_within, file_from, is_within, union_of, hunk_from, range_of, touch, with_marks, with_range}
 pub use Rattle.camp_questions.specs.Sides.{AreSeen, AppendsEachNew, AppendsNew, AppendsUnless, IsSeen, IsSideAmong, IsSideIn, HaveNoContexted, has_key, labels_of_patch, contexted_in}
-pub use Rattle.camp_questions.specs.declared.fast.going.Going.{Going}
+pub use Rattle.camp_questions.specs.declared.fast.taken_out.TakenOut.{TakenOut}
 pub use Rattle.camp_questions.specs.declared.fast.patch_catches.PatchCatches.{PatchCatches}
 pub use Rattle.camp_questions.specs.declared.marking.Version.{Version}
 pub use Rattle.camp_questions.specs.declared.needed.Needed.{Needed}
-pub use Rattle.camp_questions.specs.declared.places.Range.{Range}
+pub use Rattle.camp_questions.specs.declared.mark_hunks.Range.{Range}
 pub use Rattle.camp_seq.proofs.ListRuns.{cut_run, equivalent_run, inverse_all-append, inverse_all-cons, inverse_all-inverse_all, joined_runs, runs_back}
 pub use Rattle.camp_seq.specs.Running.{AppliesAll, inverse_all}
 pub use Rattle.std.proofs.lemmas.Result.{IfOk-weaker}
@@ -107,7 +107,7 @@ pub use Rattle.camp_branch.specs.Inside.Collecting.{pair_of}
 pub use Rattle.camp_catch.specs.Commuting.{BothPlain, CommuteCatch}
 pub use Rattle.camp_prim.proofs.FilesAtPaths.{get-with_file, get-with_file_other, get-with_file_same, same_path, with_file}
 pub use Rattle.camp_questions.specs.Inside.Alongside.{AreAfterCommon}
-pub use Rattle.camp_questions.specs.Inside.OpenPairs.{open_against, open_in, open_with, open_within}
+pub use Rattle.camp_questions.specs.Inside.OpenPairs.{unresolved_against, unresolved_in, unresolved_with, unresolved_within}
 pub use Rattle.camp_seq.specs.Room.{HasRoom, here}
 pub use Rattle.std.proofs.Math.ListN.{drop_of_length-le}
 pub use Rattle.std.proofs.lemmas.List.Filters.{dedup_is, length-filter_both}

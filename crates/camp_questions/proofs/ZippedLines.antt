@@ -1,5 +1,5 @@
 -- Two lists item by item, and the common lines of the two sides of a hunk.
-use Rattle.camp_questions.proofs.Words.{◌≡◌, ◌≤◌, ℕ, zero, suc, ◌+◌, ◌-◌, List, [], ◌∷◌, ◌++◌, bytes_eq, drop, length, take, replicate, refl, sym, ap, ◌∙◌, subst, arith, append_assoc, drop-drop, drop_at, length-drop, length-take-le, take-append-drop, AllByRecursion, bytes_eq-Decides, Lines, Edit, length-reverse, reverse-append, reverse-reverse, AllZip, reverse, own_names, brought_by, common_end, common_front, cond_both}
+use Rattle.camp_questions.proofs.Words.{◌≡◌, ◌≤◌, ℕ, zero, suc, ◌+◌, ◌-◌, List, [], ◌∷◌, ◌++◌, bytes_eq, drop, length, take, replicate, refl, sym, ap, ◌∙◌, subst, arith, append_assoc, drop-drop, drop_at, length-drop, length-take-le, take-append-drop, AllByRecursion, bytes_eq-Decides, Lines, Edit, length-reverse, reverse-append, reverse-reverse, AllZip, reverse, own_names, added_by, common_end, common_front, cond_both}
 use Rattle.std.proofs.lemmas.Slice.Zip.{AllZip-long}
 use Rattle.camp_questions.proofs.CommonSteps.{end_within, end_within_too, front_within, front_within_too}
 
@@ -65,7 +65,7 @@ new_parts lines front end within =
     append_assoc (take front lines) (take between (drop front lines)) (drop (length lines - end) lines) ∙ ap (λ l. take front lines ++ (take between (drop front lines) ++ l)) (sym rest) ∙ ap (λ l. take front lines ++ l) (take-append-drop between (drop front lines)) ∙ take-append-drop front lines
 
 -- the names of the new lines of a hunk, given those of the lines that it removes
-pub own_zipped : (R : List ℕ → List ℕ → Type 0) (gone : List (List ℕ)) (name : List ℕ) (hunk : Edit) → AllZip R gone hunk.old → AllByRecursion (R name) (brought_by hunk) → AllZip R (own_names gone name hunk) hunk.new
+pub own_zipped : (R : List ℕ → List ℕ → Type 0) (gone : List (List ℕ)) (name : List ℕ) (hunk : Edit) → AllZip R gone hunk.old → AllByRecursion (R name) (added_by hunk) → AllZip R (own_names gone name hunk) hunk.new
 own_zipped R gone name hunk have own =
     let old : Lines = hunk.old in
     let new : Lines = hunk.new in

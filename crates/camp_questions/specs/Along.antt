@@ -13,11 +13,10 @@ use Rattle.camp_questions.specs.Dependencies.{AreGrown, CanMoveToFront, AreBlock
 use Rattle.camp_questions.specs.declared.faults.Unanswered.{Unanswered}
 use Rattle.camp_questions.specs.declared.faults.Unanswered.TheVariants.{Refused, Memory}
 
--- the patches that a pull of these names has to list: those of the names that `to` lacks and, as long as these cannot
--- be moved to the front of what `from` has after the common patches, each patch that blocks them; from <-> common
--- behind
-abbrev pub ComesAlong : List Catch → List Catch → List (List ℕ) → List (List ℕ) → Type 0
-ComesAlong from to names told =
+-- the patches that a pull of these names has to list: those of the names that `to` lacks and, one after the other, each
+-- patch that blocks them on their way to the front of what `from` has after the common patches; from <-> common behind
+abbrev pub AreNamesToPull : List Catch → List Catch → List (List ℕ) → List (List ℕ) → Type 0
+AreNamesToPull from to names told =
     (common : List Catch) × (behind : List Catch) × Arrange (common_names from to) from common behind
     × AreGrown from (CanMoveToFront behind) (AreBlockedBy behind) (wanted to names) told
 
@@ -29,7 +28,7 @@ HaveDiverged from to name =
 -- the answer: the names to pull, or the refusal if the branches have diverged
 abbrev pub AlongOr : List Catch → List Catch → List (List ℕ) → AnswerOf (List (List ℕ)) → Type 0
 AlongOr from to names answer =
-    ((told : List (List ℕ)) × (answer ≡ Ok told) × ComesAlong from to names told)
+    ((told : List (List ℕ)) × (answer ≡ Ok told) × AreNamesToPull from to names told)
     ⊎ ((name : List ℕ) × (answer ≡ Err (Diverged name)) × HaveDiverged from to name)
 
 -- a question about two branches, which is refused if they are one branch
@@ -44,7 +43,7 @@ AreAlong state from to names =
 
 -- the question may run out of memory: both branches exist, they differ, and the first has the patches. Before these
 -- tests it does not allocate; after them it may run out of memory even if the branches turn out to have diverged.
-pub record MayBeTried (state : Contents) (from to : List ℕ) (names : List (List ℕ)) : Type 0 where
+pub record AlongMayAllocate (state : Contents) (from to : List ℕ) (names : List (List ℕ)) : Type 0 where
   pub theirs : List Catch
   pub ours : List Catch
   pub is_from : catches_of state.branches from ≡ Some theirs
@@ -56,4 +55,4 @@ pub record MayBeTried (state : Contents) (from to : List ℕ) (names : List (Lis
 abbrev pub ReportsAlong : Contents → List ℕ → List ℕ → List (List ℕ) → Result (List (List ℕ)) Unanswered → Type 0
 ReportsAlong state from to names (Ok told) = AreAlong state from to names (Ok told)
 ReportsAlong state from to names (Err (Refused refusal)) = AreAlong state from to names (Err refusal)
-ReportsAlong state from to names (Err Memory) = MayBeTried state from to names
+ReportsAlong state from to names (Err Memory) = AlongMayAllocate state from to names

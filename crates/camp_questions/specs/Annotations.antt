@@ -28,19 +28,19 @@ pub record Known : Type 0 where
 abbrev pub nothing_known : Known
 nothing_known = record { names = []; taken = empty }
 
--- the names that a hunk gives to its new lines: those that are on both of its sides at the start or, of the rest, at
--- the end keep their names; all others get the name of the patch
+-- the names that a hunk gives to its new lines: the lines that its two sides have in common at the start and, in what
+-- remains, at the end keep their names; all others get the name of the patch
 abbrev pub own_names : List (List ℕ) → List ℕ → Edit → List (List ℕ)
 own_names gone name hunk =
     let front = common_front hunk.old hunk.new in
     let end = common_end (drop front hunk.old) (drop front hunk.new) in
     take front gone ++ replicate (length hunk.new - front - end) name ++ drop (length gone - end) gone
 
--- the names of the new lines of a hunk: those of the lines that its inverse removed, if there are as many, else those
--- that the hunk itself gives
-abbrev pub names_coming : Option (List (List ℕ)) → List (List ℕ) → ℕ → List (List ℕ)
-names_coming None own count = own
-names_coming (Some taken) own count = if length taken == count then taken else own
+-- the names of the new lines of a hunk: the names of the lines that its inverse has removed, if there are as many; else
+-- the names that the hunk gives
+abbrev pub new_line_names : Option (List (List ℕ)) → List (List ℕ) → ℕ → List (List ℕ)
+new_line_names None own count = own
+new_line_names (Some taken) own count = if length taken == count then taken else own
 
 -- the state after a hunk of the file: the new lines with their names replace the old ones, whose names are stored
 -- under the absolute label of the hunk
@@ -51,7 +51,7 @@ known_after_hunk name key hunk known =
     let gone = slice_range known.names from to in
     record {
       names =
-          splice known.names from to (names_coming (get known.taken key) (own_names gone name hunk) (length hunk.new));
+          splice known.names from to (new_line_names (get known.taken key) (own_names gone name hunk) (length hunk.new));
       taken = insert known.taken key gone;
     }
 

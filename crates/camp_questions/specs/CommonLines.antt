@@ -13,10 +13,10 @@ common_front (line ∷ lines) (other ∷ others) = if bytes_eq line other then s
 abbrev pub common_end : Lines → Lines → ℕ
 common_end lines others = common_front (reverse lines) (reverse others)
 
--- the lines that a hunk adds: its new ones without those that are on both of its sides at the start or, of the rest, at
--- the end
-abbrev pub brought_by : Edit → Lines
-brought_by hunk =
+-- the lines that a hunk adds: its new lines without those that its two sides have in common at the start and, in what
+-- remains, at the end
+abbrev pub added_by : Edit → Lines
+added_by hunk =
     let front = common_front hunk.old hunk.new in
     let end = common_end (drop front hunk.old) (drop front hunk.new) in
     take (length hunk.new - front - end) (drop front hunk.new)

@@ -19,25 +19,25 @@ abbrev pub AreBlockedBy : List Catch → List (List ℕ) → List ℕ → Type 0
 AreBlockedBy branch names name = (patch : Key) × (on : Key) × ArrangeIsBlocked names branch patch on × (name ≡ on.name)
 
 -- the patches of these names can be taken out of a branch: no other patch depends on one of them
-abbrev pub CanGo : List Catch → List (List ℕ) → Type 0
-CanGo branch names = (left : List Catch) × ObliterateGives branch names (Ok left)
+abbrev pub CanBeTakenOut : List Catch → List (List ℕ) → Type 0
+CanBeTakenOut branch names = (left : List Catch) × ObliterateGives branch names (Ok left)
 
 -- the patches of these names can't be taken out of a branch: the patch of this name depends on one of them
-abbrev pub AreHeldIn : List Catch → List (List ℕ) → List ℕ → Type 0
-AreHeldIn branch names name = (on : List ℕ) × ObliterateGives branch names (Err (Depends name on))
+abbrev pub DependsOnTakenOut : List Catch → List (List ℕ) → List ℕ → Type 0
+DependsOnTakenOut branch names name = (on : List ℕ) × ObliterateGives branch names (Err (Depends name on))
 
--- names are added to a list one by one, each because it stops `Done` from holding of the list so far, until `Done`
--- holds
+-- names are added to a list one by one until `Done` holds of the list; each name that is added is one that `Stops`
+-- relates to the list before it
 abbrev pub AreAdded :
     (List (List ℕ) → Type 0) → (List (List ℕ) → List ℕ → Type 0) → List (List ℕ) → List (List ℕ) → Type 0
 AreAdded Done Stops names [] = Done names
 AreAdded Done Stops names (name ∷ added) = Stops names name × AreAdded Done Stops (names ++ name ∷ []) added
 
--- those of these names that are names of patches of a branch, in the order of the branch
+-- the names of the patches of a branch that are among these names, in the order of the branch
 abbrev pub in_order : List Catch → List (List ℕ) → List (List ℕ)
 in_order branch names = filter (is_among names) (names_of branch)
 
--- `grown` has the names and those that `AreAdded` adds, in the order of a branch
+-- `grown` has the names and those that are added until `Done` holds, in the order of a branch
 abbrev pub AreGrown :
     List Catch → (List (List ℕ) → Type 0) → (List (List ℕ) → List ℕ → Type 0) → List (List ℕ) → List (List ℕ) → Type 0
 AreGrown branch Done Stops names grown =
@@ -51,7 +51,7 @@ Needs branch names needed = AreGrown branch (CanMoveToFront branch) (AreBlockedB
 -- the dependents of these names in a branch: while they can't be taken out, the name of a patch that depends on one
 -- of them is added
 abbrev pub HeldBy : List Catch → List (List ℕ) → List (List ℕ) → Type 0
-HeldBy branch names held = AreGrown branch (CanGo branch) (AreHeldIn branch) names held
+HeldBy branch names held = AreGrown branch (CanBeTakenOut branch) (DependsOnTakenOut branch) names held
 
 -- a question about patches of a branch, whose answer is related to their names; refused if the branch lacks one of the
 -- patches

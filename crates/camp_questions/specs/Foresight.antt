@@ -8,7 +8,7 @@ use Rattle.camp_object.specs.declared.objects.Decided.TheVariants.{Next, Answer}
 use Rattle.camp_repo.specs.States.{Contents, catches_of}
 use Rattle.camp_repo.specs.Steps.{Decision, step}
 use Rattle.camp_repo.specs.Wanting.{CallMayWant}
-use Rattle.camp_questions.specs.OpenConflicts.{AreOpenIn}
+use Rattle.camp_questions.specs.OpenConflicts.{AreUnresolvedIn}
 use Rattle.camp_questions.specs.declared.foresight.Foreseen.{Foreseen}
 use Rattle.camp_questions.specs.declared.foresight.BranchState.{BranchState}
 
@@ -26,15 +26,15 @@ pub record IsBranchState (state : Contents) (standing : BranchState) : Type 0 wh
   pub conflicts : step state (call.Conflicts standing.branch) ≡ Answer (reply.Conflicts standing.conflicts)
 
 -- the unresolved conflicts of a branch; none if there is no branch of the name
-abbrev pub AreOpenThere : Contents → List ℕ → List (List ℕ × List ℕ) → Type 0
-AreOpenThere state branch pairs =
-    MatchOption (catches_of state.branches branch) (pairs ≡ []) (λ catches. AreOpenIn catches pairs)
+abbrev pub AreUnresolvedAt : Contents → List ℕ → List (List ℕ × List ℕ) → Type 0
+AreUnresolvedAt state branch pairs =
+    MatchOption (catches_of state.branches branch) (pairs ≡ []) (λ catches. AreUnresolvedIn catches pairs)
 
 -- a pair with the same two names is in a list
 abbrev pub is_pair_among : List (List ℕ × List ℕ) → List ℕ × List ℕ → Bool
 is_pair_among pairs pair = list_any (λ other. bytes_eq pair.0 other.0 && bytes_eq pair.1 other.1) pairs
 
--- those of some pairs that are not in another list, in their order
+-- the pairs of one list that are not in another, in their order
 abbrev pub pairs_without : List (List ℕ × List ℕ) → List (List ℕ × List ℕ) → List (List ℕ × List ℕ)
 pairs_without others pairs = filter (λ pair. not (is_pair_among others pair)) pairs
 
@@ -42,14 +42,14 @@ pairs_without others pairs = filter (λ pair. not (is_pair_among others pair)) p
 pub record OpensAndResolves (state next : Contents) (branch : List ℕ) (opened resolved : List (List ℕ × List ℕ)) : Type 0 where
   pub before : List (List ℕ × List ℕ)
   pub after : List (List ℕ × List ℕ)
-  pub were : AreOpenThere state branch before
-  pub are : AreOpenThere next branch after
+  pub were : AreUnresolvedAt state branch before
+  pub are : AreUnresolvedAt next branch after
   pub opens : opened ≡ pairs_without before after
   pub resolves : resolved ≡ pairs_without after before
 
--- a call would be accepted: its reply has the number of the next state. The branch that it writes to then has this
--- state; these of its conflicts become unresolved, and those no longer are.
-pub record IsAcceptedSo (call : Call) (state next : Contents) (seen : Foreseen) : Type 0 where
+-- a call would be accepted: its reply has the number of the next state; the branch that it writes to then has the
+-- foreseen state, and its conflicts become unresolved, or stop being so, as foreseen
+pub record ForeseesAcceptance (call : Call) (state next : Contents) (seen : Foreseen) : Type 0 where
   pub told : seen.reply ≡ reply.Done next.count
   pub standing : BranchState
   pub changed : seen.changed ≡ Some standing
@@ -60,7 +60,7 @@ pub record IsAcceptedSo (call : Call) (state next : Contents) (seen : Foreseen) 
 -- the foreseen result of a call, given its decision: if it is accepted, its reply and the branch that it writes to;
 -- else the reply alone
 abbrev pub ForeseesOf : Contents → Call → Decision → Foreseen → Type 0
-ForeseesOf state call (Next next) seen = IsAcceptedSo call state next seen
+ForeseesOf state call (Next next) seen = ForeseesAcceptance call state next seen
 ForeseesOf state call (Answer answer) seen = (seen.reply ≡ answer) × (seen.changed ≡ None)
 
 -- the foreseen result of a call at a state

@@ -8,7 +8,7 @@ use Rattle.camp_questions.specs.declared.graphs.Node.{Node}
 abbrev pub quoted : List ℕ → List ℕ
 quoted name = codes "\"" ++ name ++ codes "\""
 
--- a line of two names with an arrow or line between them and attributes after them
+-- a line of the text: two names, an arrow or a line between them, and attributes after them
 abbrev pub arrow_text : List ℕ → List ℕ → List ℕ → List ℕ
 arrow_text name other behind = codes "  " ++ quoted name ++ codes " -> " ++ quoted other ++ behind ++ codes "\n"
 

@@ -24,11 +24,11 @@ NeedsThese branch patch =
 abbrev pub needs_other : Needing → List ℕ → Bool
 needs_other patch name = not (bytes_eq name patch.name) && is_among patch.needs name
 
--- another dependency of a patch depends on this one
+-- a patch depends on `other`, and `other` depends on the patch of this name
 abbrev pub goes_between : Needing → List ℕ → Needing → Bool
 goes_between patch name other = needs_other patch other.name && needs_other other name
 
--- a patch depends directly on another: no other dependency of it does
+-- a patch depends directly on another one: no other dependency of the patch depends on that one
 abbrev pub needs_directly : List Needing → Needing → List ℕ → Bool
 needs_directly all patch name = needs_other patch name && not (list_any (goes_between patch name) all)
 
@@ -37,7 +37,7 @@ abbrev pub node_of : List Catch → List Needing → Needing → Node
 node_of branch all patch =
     record { name = patch.name; needs = filter (needs_directly all patch) (names_of branch) }
 
--- patches with their direct dependencies, and the pairs of those that are in conflict
+-- patches with their direct dependencies, and the pairs of these patches that are in conflict
 pub record Drawn : Type 0 where
   pub patches : List Node
   pub conflicts : List (List ℕ × List ℕ)

@@ -12,6 +12,6 @@ pub mod OpenPairs
 pub mod PartsOfOne
 pub mod Seeing
 pub mod Independence
-pub mod TakingBack
+pub mod Inverting
 pub mod Reporting
 pub mod Walking

@@ -34,13 +34,13 @@ use Rattle.camp_repo.specs.States.{Contents, stands}
 use Rattle.camp_repo.specs.Steps.{has_long_file, is_too_large, refused, step}
 use Rattle.camp_questions.specs.Along.{AreAlong}
 use Rattle.camp_questions.specs.Annotations.{Annotates, Known, known_after_hunk, names_of_lines}
-use Rattle.camp_questions.specs.CommonLines.{brought_by}
-use Rattle.camp_questions.specs.Dependencies.{AreHeldIn, CanGo, CanMoveToFront, HeldBy, Needs, AreBlockedBy}
+use Rattle.camp_questions.specs.CommonLines.{added_by}
+use Rattle.camp_questions.specs.Dependencies.{DependsOnTakenOut, CanBeTakenOut, CanMoveToFront, HeldBy, Needs, AreBlockedBy}
 use Rattle.camp_questions.specs.Differences.{missing_in}
-use Rattle.camp_questions.specs.Foresight.{AreOpenThere, Foresees, pairs_without}
+use Rattle.camp_questions.specs.Foresight.{AreUnresolvedAt, Foresees, pairs_without}
 use Rattle.camp_questions.specs.Graphs.{Drawn, IsGraph}
-use Rattle.camp_questions.specs.OpenConflicts.{AreOpen}
-use Rattle.camp_questions.specs.Pictures.{hangs_on}
+use Rattle.camp_questions.specs.OpenConflicts.{AreUnresolved}
+use Rattle.camp_questions.specs.Pictures.{is_one_or_neighbour}
 use Rattle.camp_questions.specs.Showing.{changes_in, patch_in}
 use Rattle.camp_questions.specs.Sides.{IsSideIn}
 use Rattle.camp_questions.specs.declared.annotations.Annotated.{Annotated}
@@ -61,23 +61,24 @@ pub record MissingIsPulled : Type 0 where
       Has state from theirs → Has state to ours → from ≢ to → missing_in ours theirs ≡ [] →
       step state (call.Pull from to None) ≡ refused NothingToDo
 
--- all of some names are among others
+-- all names of the first list are in the second
 abbrev pub AreAmong : List (List ℕ) → List (List ℕ) → Type 0
 AreAmong names others = (name : List ℕ) → is_among names name ≡ true → is_among others name ≡ true
 
--- a name was added on the way from the first names to the grown ones: it stops a set of names between the two
-abbrev pub WasMet : (List (List ℕ) → List ℕ → Type 0) → List (List ℕ) → List (List ℕ) → List ℕ → Type 0
-WasMet Stops names grown name =
+-- a name was added between the first names and the grown ones: `Stops` relates it to some names that include the first
+-- ones and are included in the grown ones
+abbrev pub WasAddedOnWay : (List (List ℕ) → List ℕ → Type 0) → List (List ℕ) → List (List ℕ) → List ℕ → Type 0
+WasAddedOnWay Stops names grown name =
     (between : List (List ℕ)) × AreAmong names between × AreAmong between grown × Stops between name
 
--- the grown names contain the first ones, and each further name was added on the way
+-- the grown names contain the first ones, and each further name was added between the two
 pub record GrewFrom (Stops : List (List ℕ) → List ℕ → Type 0) (names grown : List (List ℕ)) : Type 0 where
   pub has : AreAmong names grown
   pub met :
-      (name : List ℕ) → is_among grown name ≡ true → is_among names name ≡ false → WasMet Stops names grown name
+      (name : List ℕ) → is_among grown name ≡ true → is_among names name ≡ false → WasAddedOnWay Stops names grown name
 
--- the dependencies of patches can be moved to the front of their branch, and have grown from the patches by what blocks
--- them
+-- the dependencies of patches can be moved to the front of their branch; they include the patches, and each further one
+-- blocks some names between the patches and all dependencies
 abbrev pub NeedsComeFirst : Type 0
 NeedsComeFirst =
     (branch : List Catch) (names needed : List (List ℕ)) → first_lacked branch names ≡ None → Needs branch names needed →
@@ -93,42 +94,42 @@ pub record IsPlain (branch : List Catch) : Type 0 where
   pub are : branch ≡ map Plain patches
   pub room : HasRoom patches
 
--- of plain catches with headroom: the dependencies of names are in every list that has these names and can be moved
--- to the front of the branch
+-- in a branch of plain catches with headroom, the dependencies of names are in every list that has these names and can
+-- be moved to the front
 abbrev pub NeedsAreLeast : Type 0
 NeedsAreLeast =
     (branch : List Catch) (names needed others : List (List ℕ)) → IsPlain branch → Needs branch names needed →
     AreAmong names others → CanMoveToFront branch others → AreAmong needed others
 
--- of plain catches with headroom: the dependents of names are in every list that has these names and can be taken out
--- of the branch
+-- in a branch of plain catches with headroom, the dependents of names are in every list that has these names and can be
+-- taken out
 abbrev pub HeldIsLeast : Type 0
 HeldIsLeast =
     (branch : List Catch) (names held others : List (List ℕ)) → IsPlain branch → HeldBy branch names held →
-    AreAmong names others → CanGo branch others → AreAmong held others
+    AreAmong names others → CanBeTakenOut branch others → AreAmong held others
 
--- of plain catches with headroom: if the dependencies of patches are pulled into a branch that has none of them, the
--- pull is not refused because one of its patches depends on another
+-- if a branch has plain catches with headroom, and the dependencies of its patches are pulled into a branch that has
+-- none of them, the pull is not refused because one of them depends on another patch
 abbrev pub NeedsCanBePulled : Type 0
 NeedsCanBePulled =
     (from to : List Catch) (names needed : List (List ℕ)) → IsPlain from → first_lacked from names ≡ None →
     Needs from names needed → ((name : List ℕ) → is_among needed name ≡ true → has_patch to name ≡ false) →
     (patch on : List ℕ) → ¬ (PullGives from to needed (Err (blocked.Depends patch on)))
 
--- of plain catches with headroom: one patch depends on another exactly if it is a dependent of the other
+-- in a branch of plain catches with headroom, one patch depends on another exactly if it is a dependent of the other
 abbrev pub NeedsAndHeldAreOne : Type 0
 NeedsAndHeldAreOne =
     (branch : List Catch) (name other : List ℕ) (needed held : List (List ℕ)) → IsPlain branch →
     has_patch branch name ≡ true → has_patch branch other ≡ true → Needs branch (other ∷ []) needed →
     HeldBy branch (name ∷ []) held → (is_among needed name ≡ true) ↔ (is_among held other ≡ true)
 
--- an obliteration of patches of a branch together with their dependents is accepted, and the dependents have grown from
--- the patches by what depends on them
-abbrev pub HeldCanGo : Type 0
-HeldCanGo =
+-- an obliteration of patches of a branch together with their dependents is accepted; the dependents include the
+-- patches, and each further one depends on one of some names between the patches and all dependents
+abbrev pub HeldCanBeTakenOut : Type 0
+HeldCanBeTakenOut =
     (state : Contents) (name : List ℕ) (branch : List Catch) (names held : List (List ℕ)) → Has state name branch →
     first_lacked branch names ≡ None → names ≢ [] → HeldBy branch names held →
-    ((next : Contents) × (step state (call.Obliterate name held) ≡ Next next)) × GrewFrom (AreHeldIn branch) names held
+    ((next : Contents) × (step state (call.Obliterate name held) ≡ Next next)) × GrewFrom (DependsOnTakenOut branch) names held
 
 -- each list of names has exactly one list of dependents
 abbrev pub HeldIsDetermined : Type 0
@@ -147,40 +148,40 @@ pub record LinesHaveNames : Type 0 where
       hunk.line - 1 + length hunk.old ≤ length known.names →
       (known_after_hunk other key (flipped hunk) (known_after_hunk name key hunk known)).names ≡ known.names
 
--- a line is one that a hunk of a file adds, and the hunk is among the changes that a patch has in a branch
-pub record IsBrought (branch : List Catch) (path name line : List ℕ) : Type 0 where
+-- a line is added by a hunk of a file, and that hunk is among the changes that a patch has in a branch
+pub record IsAddedByPatch (branch : List Catch) (path name line : List ℕ) : Type 0 where
   pub hunk : Edit
   pub change : Contains (patch_in branch name).changes (Hunk hunk)
   pub file : hunk.path ≡ path
-  pub brings : Contains (brought_by hunk) line
+  pub brings : Contains (added_by hunk) line
 
--- if a primitive is a hunk of the same file, it restores the lines that this hunk removed
-abbrev pub PutsBack : Edit → Primitive → Type 0
-PutsBack hunk (Add path) = Unit {0}
-PutsBack hunk (Remove path) = Unit {0}
-PutsBack hunk (Hunk other) = other.path ≡ hunk.path → other.new ≡ hunk.old
+-- a primitive that is a hunk of the same file restores the lines that the given hunk removed
+abbrev pub RestoresLines : Edit → Primitive → Type 0
+RestoresLines hunk (Add path) = Unit {0}
+RestoresLines hunk (Remove path) = Unit {0}
+RestoresLines hunk (Hunk other) = other.path ≡ hunk.path → other.new ≡ hunk.old
 
 -- wherever the absolute label of a hunk occurs again in a list, the primitive there restores the lines that the hunk
 -- removed
-abbrev pub ComeAgainAsInverses : List Named → Type 0
-ComeAgainAsInverses [] = Unit {0}
-ComeAgainAsInverses (p ∷ s) =
-    ((hunk : Edit) → p.prim ≡ Hunk hunk → AllByRecursion (λ q. SameKey p q → PutsBack hunk q.prim) s)
-    × ComeAgainAsInverses s
+abbrev pub RepeatsRestoreLines : List Named → Type 0
+RepeatsRestoreLines [] = Unit {0}
+RepeatsRestoreLines (p ∷ s) =
+    ((hunk : Edit) → p.prim ≡ Hunk hunk → AllByRecursion (λ q. SameKey p q → RestoresLines hunk q.prim) s)
+    × RepeatsRestoreLines s
 
 -- each line in the answer for a path was added by a hunk of the patch whose name it has
-abbrev pub EachIsBrought : List Catch → List ℕ → Type 0
-EachIsBrought branch path =
+abbrev pub EachIsAddedByPatch : List Catch → List ℕ → Type 0
+EachIsAddedByPatch branch path =
     (lines : Lines) (names : List (List ℕ)) → Annotates branch path (File lines names) →
-    AllZip (IsBrought branch path) names lines
+    AllZip (IsAddedByPatch branch path) names lines
 
--- each line was added by the patch whose name it has, if primitives that occur again in the effects of a branch only
--- restore removed lines; in a lawful branch of plain catches none occurs again
-pub record LinesAreBrought : Type 0 where
+-- each line was added by the patch whose name it has, if every primitive whose label occurs again in the effects of a
+-- branch only restores removed lines; in a lawful branch of plain catches no label occurs again
+pub record LinesAreAddedByPatches : Type 0 where
   pub come_again :
-      (branch : List Catch) (path : List ℕ) → ComeAgainAsInverses (flat_map effect_of branch) → EachIsBrought branch path
+      (branch : List Catch) (path : List ℕ) → RepeatsRestoreLines (flat_map effect_of branch) → EachIsAddedByPatch branch path
   pub plain :
-      (patches : List Named) (path : List ℕ) → IsLawfulBranch (map Plain patches) → EachIsBrought (map Plain patches) path
+      (patches : List Named) (path : List ℕ) → IsLawfulBranch (map Plain patches) → EachIsAddedByPatch (map Plain patches) path
 
 -- two branches give the same answer for each path: the same lines, with the same names
 abbrev pub AnnotateAlike : List Catch → List Catch → Type 0
@@ -208,7 +209,7 @@ abbrev pub NeedsPatch : List Catch → List ℕ → List ℕ → Type 0
 NeedsPatch branch name other =
     (other ≢ name) × ((needed : List (List ℕ)) × Needs branch (name ∷ []) needed × (is_among needed other ≡ true))
 
--- it depends on it directly: no other dependency of it does
+-- a patch of a branch depends directly on another one: no other dependency of the patch depends on that one
 pub record NeedsDirectly (branch : List Catch) (name other : List ℕ) : Type 0 where
   pub needs : NeedsPatch branch name other
   pub none_between : (between : List ℕ) → NeedsPatch branch name between → ¬ (NeedsPatch branch between other)
@@ -226,7 +227,7 @@ Arrow graph name other =
     (node : Node) × Contains graph.patches node × (node.name ≡ name) × (is_among node.needs other ≡ true)
 
 -- one name comes before another in a list
-pub record StandsBefore (names : List (List ℕ)) (first second : List ℕ) : Type 0 where
+pub record NameComesBefore (names : List (List ℕ)) (first second : List ℕ) : Type 0 where
   pub before : List (List ℕ)
   pub between : List (List ℕ)
   pub behind : List (List ℕ)
@@ -236,7 +237,7 @@ pub record StandsBefore (names : List (List ℕ)) (first second : List ℕ) : Ty
 abbrev pub ArrowsLeadBackwards : Type 0
 ArrowsLeadBackwards =
     (branch : List Catch) (graph : Drawn) → IsLawfulBranch branch → IsGraph branch graph → (name other : List ℕ) →
-    Arrow graph name other → StandsBefore (names_of branch) other name
+    Arrow graph name other → NameComesBefore (names_of branch) other name
 
 -- the patches that are reached along arrows from a patch: itself, and all that are reached from those to which its
 -- arrows lead
@@ -252,9 +253,9 @@ NeedsAreReached =
     IsPlain branch → IsGraph branch graph → has_patch branch name ≡ true → Needs branch (name ∷ []) needed →
     (other : List ℕ) → (is_among needed other ≡ true) ↔ IsReached graph name other
 
--- along arrows, a patch is reached from one of some names, or one of these from it
-abbrev pub HangTogether : Drawn → List (List ℕ) → List ℕ → Type 0
-HangTogether graph names other =
+-- along arrows, a patch is reached from one of these names, or one of these names is reached from it
+abbrev pub IsConnected : Drawn → List (List ℕ) → List ℕ → Type 0
+IsConnected graph names other =
     (name : List ℕ) × (is_among names name ≡ true) × (IsReached graph name other ⊎ IsReached graph other name)
 
 -- in the graph of a lawful branch, the part that belongs to some patches consists of those reached from one of them
@@ -262,7 +263,7 @@ HangTogether graph names other =
 abbrev pub PartsAreReached : Type 0
 PartsAreReached =
     (branch : List Catch) (graph : Drawn) (names : List (List ℕ)) → IsLawfulBranch branch → IsGraph branch graph →
-    (other : List ℕ) → (hangs_on graph.patches names other ≡ true) ↔ HangTogether graph names other
+    (other : List ℕ) → (is_one_or_neighbour graph.patches names other ≡ true) ↔ IsConnected graph names other
 
 -- the changes of a side apply, one after the other, to the tree of the branch
 abbrev pub SidesApply : Type 0
@@ -270,7 +271,7 @@ SidesApply =
     (branch : List Catch) (tree : Files) (name : List ℕ) (side : List Named) → LeadsTo branch tree → IsSideIn branch name side →
     (after : Files) × AppliesEach (changes_in side) tree after
 
--- from a tree on, no change leaves a file that is longer than a record allows
+-- changes that are applied to a tree one after the other leave no file that is longer than a record allows
 abbrev pub KeepFilesShort : List Primitive → Files → Type 0
 KeepFilesShort [] tree = Unit {0}
 KeepFilesShort (change ∷ changes) tree =
@@ -299,9 +300,9 @@ AlongIsEnough =
     × ((patch on : List ℕ) → ¬ (step state (call.Pull from to (Some told)) ≡ refused (Depends patch on)))
 
 -- a call does what was foreseen: it gets the foreseen reply. If no branch was foreseen, nothing changes. If one was,
--- its questions for tree and conflicts, asked directly after the call, have the foreseen answers, and exactly the
--- foreseen conflicts become unresolved, or no longer are.
-pub record ComesAsForeseen (state : Contents) (asked : Call) (seen : Foreseen) : Type 0 where
+-- questions for its tree and conflicts, asked directly after the call, have the foreseen answers, and exactly the
+-- foreseen conflicts become unresolved, and exactly the foreseen ones are resolved or disappear
+pub record HappensAsForeseen (state : Contents) (asked : Call) (seen : Foreseen) : Type 0 where
   pub replied : reply_of (step state asked) ≡ seen.reply
   pub stays : seen.changed ≡ None → state_after_decision state (step state asked) ≡ state
   pub changed :
@@ -310,9 +311,9 @@ pub record ComesAsForeseen (state : Contents) (asked : Call) (seen : Foreseen) :
       ≡ seen.reply ∷ reply.Tree standing.tree ∷ reply.Conflicts standing.conflicts ∷ []
   pub unresolved :
       (standing : BranchState) → seen.changed ≡ Some standing → (before after : List (List ℕ × List ℕ)) →
-      AreOpenThere state standing.branch before → AreOpen (state_after_decision state (step state asked)) standing.branch (Ok after) →
+      AreUnresolvedAt state standing.branch before → AreUnresolved (state_after_decision state (step state asked)) standing.branch (Ok after) →
       (standing.opened ≡ pairs_without before after) × (standing.resolved ≡ pairs_without after before)
 
 -- every call at every state does what was foreseen
-abbrev pub ForeseenComes : Type 0
-ForeseenComes = (state : Contents) (asked : Call) (seen : Foreseen) → Foresees state asked seen → ComesAsForeseen state asked seen
+abbrev pub ForeseenHappens : Type 0
+ForeseenHappens = (state : Contents) (asked : Call) (seen : Foreseen) → Foresees state asked seen → HappensAsForeseen state asked seen

@@ -13,6 +13,6 @@ pub mod Laws
 pub mod Marks
 pub mod OpenConflicts
 pub mod Pictures
-pub mod Places
+pub mod MarkHunks
 pub mod Showing
 pub mod Sides

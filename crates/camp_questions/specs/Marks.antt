@@ -11,8 +11,8 @@ use Rattle.camp_catch.specs.declared.catches.Catch.{Catch}
 use Rattle.camp_branch.specs.Branches.{LeadsTo, names_of}
 use Rattle.camp_repo.specs.States.{Contents}
 use Rattle.camp_questions.specs.Answers.{AnswerOf, OfBranch}
-use Rattle.camp_questions.specs.OpenConflicts.{AreOpenAmong}
-use Rattle.camp_questions.specs.Places.{File, with_marks}
+use Rattle.camp_questions.specs.OpenConflicts.{AreUnresolvedAmong}
+use Rattle.camp_questions.specs.MarkHunks.{File, with_marks}
 use Rattle.camp_questions.specs.Sides.{AreSeen, IsSideAmong}
 use Rattle.camp_questions.specs.declared.marking.Marked.{Marked}
 use Rattle.camp_questions.specs.declared.marking.Marked.TheVariants as marked
@@ -23,7 +23,7 @@ abbrev pub MakesVersion : ContextedPatches → Files → List ℕ → List ℕ �
 MakesVersion seen tree path name made =
     (side : List Named) × (next : Files) × IsSideAmong seen name side × AppliesAll side tree next × (made ≡ get next path)
 
--- the list of versions with that of one more patch, if it differs from the present file
+-- the list of versions, with the one of a further patch appended if it differs from the present file
 abbrev pub with_made : Lines → List ℕ → Option Lines → List Version → List Version
 with_made lines name None versions = versions
 with_made lines name (Some made) versions =
@@ -48,10 +48,10 @@ names_in_pairs branch pairs = filter (is_in_pair pairs) (names_of branch)
 abbrev pub IsMarked : List Catch → Files → List ℕ → Lines → File → Type 0
 IsMarked branch tree path lines file =
     (seen : ContextedPatches) × (pairs : List (List ℕ × List ℕ)) × (versions : List Version)
-    × AreSeen branch seen × AreOpenAmong branch seen pairs
+    × AreSeen branch seen × AreUnresolvedAmong branch seen pairs
     × AreVersions seen tree path lines (names_in_pairs branch pairs) versions × (file ≡ with_marks lines versions)
 
--- the answer for a path of a branch: its file with marks, or that there is none
+-- the answer for a path of a branch: the file with marks, or that there is no file
 abbrev pub MarksAt : List Catch → Files → List ℕ → Option Lines → Marked → Type 0
 MarksAt branch tree path None told = told ≡ marked.NoFile
 MarksAt branch tree path (Some lines) told =

@@ -5,45 +5,45 @@ use Rattle.camp_branch.specs.Branches.{is_among}
 use Rattle.camp_repo.specs.States.{Contents}
 use Rattle.camp_questions.specs.Answers.{AnswerOf, OfBranch, OfPatches}
 use Rattle.camp_questions.specs.Graphs.{Drawn, IsGraph}
-use Rattle.camp_questions.specs.OpenConflicts.{AreOpenIn}
+use Rattle.camp_questions.specs.OpenConflicts.{AreUnresolvedIn}
 use Rattle.camp_questions.specs.declared.graphs.Node.{Node}
 
--- patches with their direct dependencies, the pairs of those that are in conflict, and the pairs that are in an
--- unresolved one
+-- patches with their direct dependencies, the pairs of these patches that are in conflict, and the pairs in an
+-- unresolved conflict
 pub record Picture : Type 0 where
   pub patches : List Node
   pub conflicts : List (List ℕ × List ℕ)
   pub unsettled : List (List ℕ × List ℕ)
 
--- names and, if a patch is among them, the patch's direct dependencies
+-- names, with the direct dependencies of a patch added if the patch is among them
 abbrev pub with_needs_of : Node → List (List ℕ) → List (List ℕ)
 with_needs_of node names = if is_among names node.name then names ++ node.needs else names
 
--- names and all their dependencies, found from the last patch to the first: each that is among them adds its direct
--- dependencies
+-- names and all their dependencies, found from the last patch to the first: the direct dependencies of each patch that
+-- is among them are added
 abbrev pub with_needs : List Node → List (List ℕ) → List (List ℕ)
 with_needs [] names = names
 with_needs (node ∷ nodes) names = with_needs_of node (with_needs nodes names)
 
--- names and, if a patch depends directly on one of them, the patch itself
+-- names, with a patch added if it depends directly on one of them
 abbrev pub with_needing_one : List (List ℕ) → Node → List (List ℕ)
 with_needing_one names node = if list_any (is_among names) node.needs then names ++ node.name ∷ [] else names
 
--- names and all their dependents, found from the first patch to the last: each that depends directly on one of them is
--- added
+-- names and all their dependents, found from the first patch to the last: each patch that depends directly on one of
+-- them is added
 abbrev pub with_needing : List Node → List (List ℕ) → List (List ℕ)
 with_needing [] names = names
 with_needing (node ∷ nodes) names = with_needing nodes (with_needing_one names node)
 
 -- a patch is one of these names, or a dependency or dependent of one
-abbrev pub hangs_on : List Node → List (List ℕ) → List ℕ → Bool
-hangs_on nodes names name = is_among (with_needs nodes names ++ with_needing nodes names) name
+abbrev pub is_one_or_neighbour : List Node → List (List ℕ) → List ℕ → Bool
+is_one_or_neighbour nodes names name = is_among (with_needs nodes names ++ with_needing nodes names) name
 
 -- a patch, with only those of its arrows that lead to kept names
 abbrev pub kept_node : (List ℕ → Bool) → Node → Node
 kept_node keeps node = record { name = node.name; needs = filter keeps node.needs }
 
--- the part of a graph with only these patches, and the arrows and pairs between them; unresolved pairs stay listed
+-- the part of a graph with only these patches, and the arrows and pairs between them; all unresolved pairs stay listed
 abbrev pub part_with : (List ℕ → Bool) → Picture → Picture
 part_with keeps whole =
     record {
@@ -53,9 +53,9 @@ part_with keeps whole =
     }
 
 -- the part of a graph with these patches, their dependencies and dependents; the whole graph if no patch is given
-abbrev pub drawn_about : List (List ℕ) → Picture → Picture
-drawn_about [] whole = whole
-drawn_about (name ∷ names) whole = part_with (hangs_on whole.patches (name ∷ names)) whole
+abbrev pub graph_part : List (List ℕ) → Picture → Picture
+graph_part [] whole = whole
+graph_part (name ∷ names) whole = part_with (is_one_or_neighbour whole.patches (name ∷ names)) whole
 
 -- the graph with these unresolved conflicts
 abbrev pub whole_picture : Drawn → List (List ℕ × List ℕ) → Picture
@@ -65,5 +65,5 @@ whole_picture graph pairs = record { patches = graph.patches; conflicts = graph.
 abbrev pub IsPictured : Contents → List ℕ → List (List ℕ) → AnswerOf Picture → Type 0
 IsPictured state branch names =
     OfBranch state branch (λ catches. OfPatches catches names (λ answer.
-    (graph : Drawn) × (pairs : List (List ℕ × List ℕ)) × (answer ≡ Ok (drawn_about names (whole_picture graph pairs)))
-    × IsGraph catches graph × AreOpenIn catches pairs))
+    (graph : Drawn) × (pairs : List (List ℕ × List ℕ)) × (answer ≡ Ok (graph_part names (whole_picture graph pairs)))
+    × IsGraph catches graph × AreUnresolvedIn catches pairs))

@@ -27,8 +27,8 @@ contexted_in (Catch.Conflictor k) key =
 abbrev pub HaveNoContexted : List Catch → Key → Type 0
 HaveNoContexted catches key = AllByRecursion (λ k. contexted_in k key ≡ None) catches
 
--- a label in conflict, as seen from the end of a branch: the contexted patch that the last catch k with this label has,
--- with the inverses of the effects after k added to it; branch = before k behind
+-- a label in conflict, as seen from the end of a branch: of the last catch k that has a contexted patch with this
+-- label, that contexted patch, to which the inverses of the effects after k are added; branch = before k behind
 pub record IsSeen (branch : List Catch) (key : Key) (seen : ContextedPatch) : Type 0 where
   pub before : List Catch
   pub k : Catch
@@ -47,14 +47,14 @@ AreSeen branch seen = (key : Key) → MatchOption (get seen key) (HaveNoContexte
 abbrev pub has_key : List Named → Key → Bool
 has_key s key = list_any (λ p. eq_by_cmp key_cmp key (key_of (label_of p))) s
 
--- true: changes stay as they are; false: the inverses of the changes are added to a contexted patch, and the resulting
--- context and patch are appended
+-- if the flag is true, changes stay as they are; else the inverses of the changes are added to a contexted patch, and
+-- the resulting context and patch are appended to the changes
 abbrev pub AppendsUnless : Bool → List Named → ContextedPatch → List Named → Type 0
 AppendsUnless true changes x next = next ≡ changes
 AppendsUnless false changes x next =
     (y : ContextedPatch) × AddsAll (inverse_all changes) x y × (next ≡ changes ++ whole y)
 
--- appends a contexted patch to changes, unless they have its absolute label already
+-- a contexted patch is appended to changes, unless its absolute label is among theirs already
 abbrev pub AppendsNew : List Named → ContextedPatch → List Named → Type 0
 AppendsNew changes x next = AppendsUnless (has_key changes (context_key x)) changes x next
 
@@ -68,7 +68,8 @@ AppendsEachNew changes (x ∷ xs) side =
 abbrev pub labels_of_patch : List ℕ → ContextedPatches → List ContextedPatch
 labels_of_patch name seen = filter (λ x. bytes_eq name x.patch.name) (values seen)
 
--- the side of a patch, given the labels in conflict of its branch: those of the patch, appended one after the other
+-- the side of a patch, given the labels in conflict of its branch: the contexted patches with the labels of the patch,
+-- appended one after the other
 abbrev pub IsSideAmong : ContextedPatches → List ℕ → List Named → Type 0
 IsSideAmong seen name side = AppendsEachNew [] (labels_of_patch name seen) side
 

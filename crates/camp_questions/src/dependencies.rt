@@ -6,7 +6,7 @@ ghost use Rattle.camp_questions.specs.Dependencies.{AreHeldBy, AreNeeded, HeldBy
 ghost use Rattle.camp_questions.specs.Inside.Growing.{GrowsToFront};
 
 use crate::Unanswered;
-use crate::fast::{by_patch, held_in, taken_back};
+use crate::fast::{by_patch, dependents_by_pass, inverted_patches};
 use crate::finding::branch_with;
 use crate::keeping::keep_named;
 use crate::reporting::answer_or_memory;
@@ -41,17 +41,17 @@ pub fn held_by(state: &State, branch: &Name, names: &[Name]) -> Result<Names, Un
     ensures exact { ReportsAnswer (AreHeldBy state.now branch.now names.now) result }
 {
     let branch = branch_with(state, branch, names)?;
-    answer_or_memory(held_there(branch, names))
+    answer_or_memory(dependents_in(branch, names))
 }
 
 /// Returns the dependents of names of a branch.
-pub(crate) fn held_there(branch: &Branch, names: &[Name]) -> Result<Names, AllocError>
+pub(crate) fn dependents_in(branch: &Branch, names: &[Name]) -> Result<Names, AllocError>
     ensures { IfOk result (HeldBy branch.now names.now) }
 {
     let alloc = branch.catches().allocator();
     let patches = by_patch(alloc, &branch.catches().to_vec()?)?;
     let named = set_of(alloc, names)?;
-    let held = held_in(alloc, &patches, named)?;
+    let held = dependents_by_pass(alloc, &patches, named)?;
     in_order(branch, &held)
 }
 
@@ -62,18 +62,18 @@ pub(crate) fn grown_to_front(branch: &Branch, names: NameSet) -> Result<NameSet,
 {
     let alloc = branch.catches().allocator();
     let catches = branch.catches().to_vec()?;
-    match taken_back(alloc, &catches)? {
+    match inverted_patches(alloc, &catches)? {
         Some(mut back) => {
             back.reverse();
-            held_in(alloc, &back, names)
+            dependents_by_pass(alloc, &back, names)
         }
-        None => stuck_to_front(alloc, &catches, names),
+        None => grow_by_blockers(alloc, &catches, names),
     }
 }
 
 /// Returns the names and those that are added until all can be moved to the front of a list. Arranges the list once for
 /// each added name, and once more to find that none is missing.
-pub(crate) fn stuck_to_front(
+pub(crate) fn grow_by_blockers(
     alloc: Global,
     list: &[Shared<Catch>],
     names: NameSet,

@@ -1,6 +1,6 @@
 //! What a call would do, without executing it.
 ghost use Rattle.std.specs.Prelude.{◌≡◌, ◌-◌, ◌^◌, ◌<◌, IfErr, IfOk};
-ghost use Rattle.camp_questions.specs.Foresight.{Foresees, IsAcceptedSo, MayWantForesight, branch_written};
+ghost use Rattle.camp_questions.specs.Foresight.{Foresees, ForeseesAcceptance, MayWantForesight, branch_written};
 ghost use Rattle.camp_questions.specs.Inside.Foresight.{LedTo};
 
 use crate::open_changes::opened_and_resolved;
@@ -50,7 +50,7 @@ pub fn what_if(state: &State, call: &Call) -> Result<Foreseen, AllocError>
 /// Returns the reply to an accepted call, and the branch that it has written to in the state after the call.
 fn written(state: &State, next: &State, call: &Call) -> Result<Foreseen, AllocError>
     requires { LedTo call.now state.now next.now }
-    ensures { IfOk result (IsAcceptedSo call.now state.now next.now) }
+    ensures { IfOk result (ForeseesAcceptance call.now state.now next.now) }
 {
     let Some(name) = branch_written(call) else {
         unreachable!();

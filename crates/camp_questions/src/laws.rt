@@ -1,5 +1,5 @@
 //! The laws of questions, as functions whose contracts state them.
-ghost use Rattle.camp_questions.specs.Laws.{AlongIsEnough, ArrowsAreDirectNeeds, ArrowsLeadBackwards, ForeseenComes, HeldCanGo, HeldIsDetermined, HeldIsLeast, LinesAreBrought, LinesHaveNames, MissingIsPulled, NeedsAndHeldAreOne, NeedsAreDetermined, NeedsAreLeast, NeedsAreReached, NeedsCanBePulled, NeedsComeFirst, OrderKeepsNames, PartsAreReached, RecordedIsShown, SidesApply, SidesAreAccepted};
+ghost use Rattle.camp_questions.specs.Laws.{AlongIsEnough, ArrowsAreDirectNeeds, ArrowsLeadBackwards, ForeseenHappens, HeldCanBeTakenOut, HeldIsDetermined, HeldIsLeast, LinesAreAddedByPatches, LinesHaveNames, MissingIsPulled, NeedsAndHeldAreOne, NeedsAreDetermined, NeedsAreLeast, NeedsAreReached, NeedsCanBePulled, NeedsComeFirst, OrderKeepsNames, PartsAreReached, RecordedIsShown, SidesApply, SidesAreAccepted};
 
 /// An accepted pull without names appends the missing patches, in this order; if none is missing, the pull is refused
 /// as having nothing to do.
@@ -8,8 +8,8 @@ pub fn missing_is_pulled()
     ensures law { MissingIsPulled }
 {}
 
-/// The dependencies of patches include the patches and can be moved to the front of their branch; each further one
-/// blocks some of them on the way.
+/// The dependencies of patches include the patches and can be moved to the front of their branch; each further
+/// dependency blocks some of the others on the way.
 pub fn needs_come_first()
     ensures law { NeedsComeFirst }
 {}
@@ -28,8 +28,8 @@ pub fn needs_are_determined()
 
 /// Obliterating patches together with everything that depends on them is accepted; each of the dependents
 /// depends on one of the patches or of the other dependents.
-pub fn held_can_go()
-    ensures law { HeldCanGo }
+pub fn held_can_be_taken_out()
+    ensures law { HeldCanBeTakenOut }
 {}
 
 /// Patches have exactly one list of dependents.
@@ -44,8 +44,8 @@ pub fn held_is_least()
     ensures law { HeldIsLeast }
 {}
 
-/// If all catches of a branch are plain and have headroom, a pull of the dependencies into a branch that has
-/// none of them does not fail because one of its patches depends on another patch.
+/// If all catches of a branch are plain and have headroom, a pull of the dependencies of some patches into a branch
+/// that has none of them does not fail because one of them depends on another patch.
 pub fn needs_can_be_pulled()
     ensures law { NeedsCanBePulled }
 {}
@@ -63,11 +63,12 @@ pub fn lines_have_names()
     ensures law { LinesHaveNames }
 {}
 
-/// Each line of a file was added by a hunk of the patch whose name it has, if primitives that occur again under their
-/// labels only restore removed lines. In a lawful branch of plain catches, no label occurs again.
-#[tactic(auto, using(crate::proofs::BroughtLines::lines_are_brought))]
-pub fn lines_are_brought()
-    ensures law { LinesAreBrought }
+/// Each line of a file was added by a hunk of the patch whose name it has, if every primitive whose label occurs again
+/// in the effects of the branch only restores removed lines. In a lawful branch of plain catches no label occurs again,
+/// so this always holds.
+#[tactic(auto, using(crate::proofs::BroughtLines::lines_are_added_by_patches))]
+pub fn lines_are_added_by_patches()
+    ensures law { LinesAreAddedByPatches }
 {}
 
 /// Plain patches give the files the same lines, with the same names, in whatever order they are.
@@ -125,7 +126,7 @@ pub fn arrows_lead_backwards()
 
 /// A call does what was foreseen: it gets the foreseen reply, and questions directly after it return the foreseen tree
 /// and conflicts of the branch that it writes to.
-#[tactic(auto, using(crate::proofs::Foreseeing::foreseen_comes))]
-pub fn foreseen_comes()
-    ensures law { ForeseenComes }
+#[tactic(auto, using(crate::proofs::Foreseeing::foreseen_happens))]
+pub fn foreseen_happens()
+    ensures law { ForeseenHappens }
 {}

@@ -2,7 +2,6 @@
 #![tactic(auto)]
 
 mod annotations;
-mod bringing;
 mod common_lines;
 mod contents;
 mod dependencies;
@@ -15,6 +14,7 @@ mod graph_texts;
 mod graphs;
 mod keeping;
 mod laws;
+mod mark_hunks;
 mod marking;
 mod needed;
 mod nodes;
@@ -22,7 +22,7 @@ mod open_changes;
 mod open_conflicts;
 mod passing;
 mod pictures;
-mod places;
+mod pull_along;
 mod related;
 mod reporting;
 mod showing;
@@ -30,7 +30,6 @@ mod sides;
 mod walks;
 
 pub use annotations::{Annotated, annotate};
-pub use bringing::along;
 pub use contents::{branches, file};
 pub use dependencies::{held_by, needs};
 pub use differences::missing;
@@ -39,14 +38,15 @@ pub use foresight::{BranchState, Foreseen, what_if};
 pub use graph_texts::graph_text;
 pub use graphs::{Node, PatchGraph, graph};
 pub use laws::{
-    along_is_enough, arrows_are_direct_needs, arrows_lead_backwards, foreseen_comes, held_can_go,
-    held_is_determined, held_is_least, lines_are_brought, lines_have_names, missing_is_pulled,
-    needs_and_held_are_one, needs_are_determined, needs_are_least, needs_are_reached,
-    needs_can_be_pulled, needs_come_first, order_keeps_names, parts_are_reached, recorded_is_shown,
-    sides_apply, sides_are_accepted,
+    along_is_enough, arrows_are_direct_needs, arrows_lead_backwards, foreseen_happens,
+    held_can_be_taken_out, held_is_determined, held_is_least, lines_are_added_by_patches,
+    lines_have_names, missing_is_pulled, needs_and_held_are_one, needs_are_determined,
+    needs_are_least, needs_are_reached, needs_can_be_pulled, needs_come_first, order_keeps_names,
+    parts_are_reached, recorded_is_shown, sides_apply, sides_are_accepted,
 };
 pub use marking::{Marked, MarkedFile, MarkedHunk, Version, marks};
-pub use open_conflicts::open_pairs;
+pub use open_conflicts::unresolved_pairs;
 pub use pictures::{Picture, picture_of};
+pub use pull_along::along;
 pub use showing::{Shown, show};
-pub use sides::{Said, side};
+pub use sides::{SideChanges, side};

@@ -5,15 +5,15 @@ ghost use Rattle.camp_branch.specs.Branches.{LeadsTo};
 ghost use Rattle.camp_ctx.specs.Contexts.{AreValid, ContextedPatches};
 ghost use Rattle.camp_questions.specs.Answers.{ReportsAnswerOrMemory};
 ghost use Rattle.camp_questions.specs.Marks.{AreMarked, AreVersions, MakesVersion, MarksAt, names_in_pairs, with_made};
-ghost use Rattle.camp_questions.specs.OpenConflicts.{AreOpenAmong};
+ghost use Rattle.camp_questions.specs.OpenConflicts.{AreUnresolvedAmong};
 ghost use Rattle.camp_questions.specs.Sides.{AreSeen};
 
 use crate::Unanswered;
 use crate::contents::file_at;
 use crate::dependencies::in_order;
 use crate::finding::branch_of;
-use crate::open_conflicts::open_among;
-use crate::places::with_marks;
+use crate::mark_hunks::with_marks;
+use crate::open_conflicts::unresolved_among;
 use crate::reporting::answer_or_memory;
 use crate::sides::{labels_seen, side_among};
 use camp_base::{Apply, Line, Name, Path, Tree};
@@ -41,7 +41,7 @@ pub struct MarkedFile {
 }
 
 impl Model for MarkedFile {
-    ghost use Rattle.camp_questions.specs.Places.{File};
+    ghost use Rattle.camp_questions.specs.MarkHunks.{File};
 
     ghost Value = { File };
 
@@ -64,7 +64,8 @@ impl MarkedFile {
     }
 }
 
-/// A hunk: its lines, the context lines after the hunk above, and the lines of each side there.
+/// A hunk: the context lines between the hunk above and this one, its lines in the file, and the lines of each side in
+/// their place.
 #[derive(Drop)]
 pub struct MarkedHunk {
     pub(crate) before: SharedList<Line>,
@@ -73,7 +74,7 @@ pub struct MarkedHunk {
 }
 
 impl Model for MarkedHunk {
-    ghost use Rattle.camp_questions.specs.Places.{MarkedHunk};
+    ghost use Rattle.camp_questions.specs.MarkHunks.{MarkedHunk};
 
     ghost Value = { MarkedHunk };
 
@@ -95,7 +96,8 @@ impl MarkedHunk {
         &self.lines
     }
 
-    /// Returns the lines that each side has there, in the order of the patches in the branch.
+    /// Returns the sides: the lines that each has in place of the hunk's lines, in the order of the patches in the
+    /// branch.
     pub fn sides(&self) -> &[Version]
         ensures value { result.now ≡ self.now.sides }
     {
@@ -103,7 +105,7 @@ impl MarkedHunk {
     }
 }
 
-/// The lines that a patch has where a hunk has its own.
+/// The lines of one side, under the name of its patch: a whole file, or what stands in place of a hunk's lines.
 #[derive(Drop)]
 pub struct Version {
     pub name: Name,
@@ -140,21 +142,21 @@ fn versions_at(
 ) -> Result<Vec<Version>, AllocError>
     requires { LeadsTo branch.now tree.now }
     ensures { IfOk result (λ versions. (seen : ContextedPatches) × (pairs : List (List ℕ × List ℕ)) × AreSeen branch.now seen
-        × AreOpenAmong branch.now seen pairs
+        × AreUnresolvedAmong branch.now seen pairs
         × AreVersions seen tree.now path.now lines.now (names_in_pairs branch.now pairs) versions.items) }
 {
     let seen = labels_seen(branch)?;
-    let names = names_in_open(branch, &seen)?;
+    let names = names_in_unresolved(branch, &seen)?;
     versions_of(&seen, tree, path, lines, names.as_slice())
 }
 
 /// Returns the names of the patches of a branch that are in an unresolved conflict, given its labels in
 /// conflict.
-fn names_in_open(branch: &Branch, seen: &CtxSet) -> Result<Names, AllocError>
-    ensures { IfOk result (λ names. (pairs : List (List ℕ × List ℕ)) × AreOpenAmong branch.now seen.now pairs
+fn names_in_unresolved(branch: &Branch, seen: &CtxSet) -> Result<Names, AllocError>
+    ensures { IfOk result (λ names. (pairs : List (List ℕ × List ℕ)) × AreUnresolvedAmong branch.now seen.now pairs
         × (names ≡ names_in_pairs branch.now pairs)) }
 {
-    let pairs = open_among(branch.catches(), seen)?;
+    let pairs = unresolved_among(branch.catches(), seen)?;
     names_in_pairs(branch, &pairs)
 }
 

@@ -4,8 +4,8 @@ ghost use Rattle.camp_branch.specs.Branches.{is_among, names_of};
 ghost use Rattle.camp_branch.specs.Fields.{names_in};
 ghost use Rattle.camp_questions.specs.Inside.Graphing.{NeedEach};
 
-use crate::dependencies::stuck_to_front;
-use crate::fast::{all_reached, taken_back};
+use crate::dependencies::grow_by_blockers;
+use crate::fast::{all_reached, inverted_patches};
 use camp_base::Name;
 use camp_branch::{NameSet, set_of};
 use camp_catch::Catch;
@@ -14,29 +14,29 @@ use camp_share::Shared;
 use std::alloc::{AllocError, Global};
 use std::slice;
 
-/// A patch with its dependencies and itself, as marks: for each index of the branch, whether the patch there
-/// is one of them. Indexes past the last mark are not marked.
+/// A patch, with a mark for each index of the branch: true if the patch there is this one or one of its dependencies.
+/// Indexes past the last mark count as false.
 #[derive(Drop)]
 pub(crate) struct Needed {
     pub name: Name,
     pub needs: Vec<bool>,
 }
 
-/// Returns the patches of a branch, which have these names, with their dependencies.
+/// Returns all patches of a branch, whose names are given, with their dependencies.
 pub(crate) fn all_needed(branch: &Branch, names: &[Name]) -> Result<Vec<Needed>, AllocError>
     requires { names.now ≡ names_of branch.now }
     ensures { IfOk result (λ all. NeedEach branch.now names.now all.items) }
 {
     let alloc = branch.catches().allocator();
     let catches = branch.catches().to_vec()?;
-    match taken_back(alloc, &catches)? {
+    match inverted_patches(alloc, &catches)? {
         Some(back) => all_reached(alloc, &back),
-        None => all_stuck(alloc, &catches, names),
+        None => needed_by_blockers(alloc, &catches, names),
     }
 }
 
 /// Returns the dependencies of each patch, found by moving it to the front: what blocks it is a dependency.
-fn all_stuck(
+fn needed_by_blockers(
     alloc: Global,
     catches: &[Shared<Catch>],
     names: &[Name],
@@ -47,7 +47,7 @@ fn all_stuck(
     let mut all = Vec::with_capacity(alloc, names.len())?;
     for name in names {
         let named = set_of(alloc, slice::from_ref(name))?;
-        let grown = stuck_to_front(alloc, catches, named)?;
+        let grown = grow_by_blockers(alloc, catches, named)?;
         let needs = marks_of(alloc, names, &grown)?;
         all.push(Needed { name: *name, needs })?;
     }

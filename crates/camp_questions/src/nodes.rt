@@ -3,7 +3,7 @@ ghost use Rattle.std.specs.Prelude.{◌≡◌, ◌<◌, ◌≤◌, ◌&&◌, ℕ
 ghost use Rattle.std.specs.List.{AllByRecursion};
 ghost use Rattle.camp_branch.specs.Branches.{AreDistinct};
 ghost use Rattle.camp_questions.specs.Inside.Graphing.{needing};
-ghost use Rattle.camp_questions.specs.Inside.ByIndex.{AreSettled, EndAtOwnIndex, name_at_index, needs_index, node_in, indexes_below};
+ghost use Rattle.camp_questions.specs.Inside.ByIndex.{NoneBeforeDepends, EndAtOwnIndex, name_at_index, needs_index, node_in, indexes_below};
 ghost use Rattle.camp_questions.specs.declared.needed.Needed.{Needed as AnyNeeded};
 
 use crate::graphs::Node;
@@ -19,7 +19,7 @@ pub(crate) fn nodes(alloc: Global, names: &[Name], all: &[Needed]) -> Result<Vec
     ensures { IfOk result (λ nodes. nodes.items ≡ map (node_in names.now (map (needing names.now) all.now)) (map (needing names.now) all.now)) }
 {
     let mut nodes = Vec::with_capacity(alloc, all.len())?;
-    let in_place = end_in_place(all);
+    let in_place = end_at_own_index(all);
     for at in 0..all.len() {
         let patch = &all[at];
         let needs = direct_needs(alloc, names, all, in_place, at, patch)?;
@@ -32,7 +32,7 @@ pub(crate) fn nodes(alloc: Global, names: &[Name], all: &[Needed]) -> Result<Vec
 }
 
 /// True if no patch has a mark past its own index.
-fn end_in_place(all: &[Needed]) -> bool
+fn end_at_own_index(all: &[Needed]) -> bool
     ensures { IsTrue result → EndAtOwnIndex all.now }
 {
     for at in 0..all.len() {
@@ -43,9 +43,9 @@ fn end_in_place(all: &[Needed]) -> bool
     true
 }
 
-/// Returns the direct dependencies of the patch at an index: its dependencies without the dependencies of these. The
-/// last ones are tried first, since they usually remove most of those before them. If no patch has a mark past its own
-/// index, trying stops at the first dependency that is left.
+/// Returns the direct dependencies of the patch at an index: its dependencies without the dependencies of these. Starts
+/// with the last dependencies, whose dependencies usually include most of the others. If no patch has a mark past its
+/// own index, it stops at the first dependency that is left.
 fn direct_needs(
     alloc: Global,
     names: &[Name],
@@ -63,13 +63,13 @@ fn direct_needs(
         needs ≡ (node_in names.now (map (needing names.now) all.now) (needing names.now patch.now)).needs) }
 {
     let mut left = end_of_needed(&patch.needs, at, all.len());
-    let mut places = needed_places(alloc, &patch.needs, at, left)?;
+    let mut places = needed_indexes(alloc, &patch.needs, at, left)?;
     let mut settled = 0;
     while left > settled {
         left -= 1;
         if needs(&patch.needs, at, left) {
             leave_out(&mut places, &all[left].needs, left);
-            settled = settled_before(&places, in_place);
+            settled = first_that_may_depend(&places, in_place);
         }
     }
     let names = names_at(alloc, names, &places)?;
@@ -91,11 +91,11 @@ fn end_of_needed(marks: &[bool], at: usize, count: usize) -> usize
     end
 }
 
-/// Returns an index before which no patch depends on one at these indexes: the first of these if no patch has a mark
-/// past its own index, else 0.
-fn settled_before(places: &[usize], in_place: bool) -> usize
+/// Returns an index such that no patch before it depends on a patch at one of these indexes: the first of these if no
+/// patch has a mark past its own index, else 0.
+fn first_that_may_depend(places: &[usize], in_place: bool) -> usize
     requires { AllByRecursion (λ place. get_or places.now 0 0 ≤ place) places.now }
-    ensures { AreSettled in_place places.now result }
+    ensures { NoneBeforeDepends in_place places.now result }
 {
     if places.is_empty() {
         return 0;
@@ -107,7 +107,7 @@ fn settled_before(places: &[usize], in_place: bool) -> usize
 }
 
 /// Returns the dependencies of the patch at an index, given its marks: their indexes below `count`.
-fn needed_places(
+fn needed_indexes(
     alloc: Global,
     marks: &[bool],
     at: usize,
@@ -131,8 +131,8 @@ fn needs(marks: &[bool], at: usize, place: usize) -> bool
     place != at && place < marks.len() && marks[place]
 }
 
-/// Removes from the indexes those of the dependencies of the patch at an index. Returns at once if its marks end before
-/// the first of the indexes.
+/// Removes from `places` the indexes of the dependencies of the patch at index `at`. Returns at once if its marks end
+/// before the first index of `places`.
 fn leave_out(places: &mut Vec<usize>, marks: &[bool], at: usize)
     requires { AllByRecursion (λ place. get_or places.old.items 0 0 ≤ place) places.old.items }
     ensures { places.new.items ≡ filter (λ place. not (needs_index marks.now at place)) places.old.items }

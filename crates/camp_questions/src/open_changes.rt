@@ -1,15 +1,15 @@
-//! The conflicts that become unresolved, and those that no longer are, from one state to the next.
+//! The conflicts that become unresolved from one state to the next, and those that are resolved or disappear.
 ghost use Rattle.std.specs.Prelude.{◌≡◌, AllPairs, IfOk};
 ghost use Rattle.camp_branch.specs.Conflicting.{IsBefore};
-ghost use Rattle.camp_questions.specs.Foresight.{AreOpenThere, OpensAndResolves, is_pair_among, pairs_without};
+ghost use Rattle.camp_questions.specs.Foresight.{AreUnresolvedAt, OpensAndResolves, is_pair_among, pairs_without};
 
-use crate::open_conflicts::open_in;
+use crate::open_conflicts::unresolved_in;
 use camp_base::Name;
 use camp_repo::{Conflicts, State};
 use std::alloc::{AllocError, Global};
 
-/// Returns the conflicts of a branch that are unresolved in the next state only, and those that are so in this state
-/// only.
+/// Returns the conflicts of a branch that are unresolved only in the next state, and those that are unresolved only in
+/// this state.
 pub(crate) fn opened_and_resolved(
     alloc: Global,
     state: &State,
@@ -18,19 +18,23 @@ pub(crate) fn opened_and_resolved(
 ) -> Result<(Conflicts, Conflicts), AllocError>
     ensures { IfOk result (λ found. OpensAndResolves state.now next.now branch.now found.0 found.1) }
 {
-    let before = open_there(alloc, state, branch)?;
-    let after = open_there(alloc, next, branch)?;
+    let before = unresolved_conflicts(alloc, state, branch)?;
+    let after = unresolved_conflicts(alloc, next, branch)?;
     let opened = without(alloc, &after, &before)?;
     let resolved = without(alloc, &before, &after)?;
     Ok((opened, resolved))
 }
 
 /// Returns the unresolved conflicts of a branch; none if there is no branch of the name.
-fn open_there(alloc: Global, state: &State, branch: &Name) -> Result<Conflicts, AllocError>
-    ensures { IfOk result (AreOpenThere state.now branch.now) }
+fn unresolved_conflicts(
+    alloc: Global,
+    state: &State,
+    branch: &Name,
+) -> Result<Conflicts, AllocError>
+    ensures { IfOk result (AreUnresolvedAt state.now branch.now) }
 {
     match state.branch(branch) {
-        Some(branch) => open_in(branch),
+        Some(branch) => unresolved_in(branch),
         None => Ok(Conflicts::new(Vec::new(alloc))),
     }
 }

@@ -3,8 +3,8 @@ ghost use Rattle.std.specs.Prelude.{◌≡◌, ◌++◌, IfOk, OnOk};
 ghost use Rattle.std.specs.List.{flat_map};
 ghost use Rattle.camp_branch.specs.Inside.Collecting.{pair_of};
 ghost use Rattle.camp_questions.specs.Answers.{ReportsAnswerOrMemory};
-ghost use Rattle.camp_questions.specs.Inside.OpenPairs.{open_at, open_in, open_with, open_within};
-ghost use Rattle.camp_questions.specs.OpenConflicts.{AreOpen, AreOpenAmong, AreOpenIn, is_open, takes_back};
+ghost use Rattle.camp_questions.specs.Inside.OpenPairs.{unresolved_of_catch, unresolved_in, unresolved_with, unresolved_within};
+ghost use Rattle.camp_questions.specs.OpenConflicts.{AreUnresolved, AreUnresolvedAmong, AreUnresolvedIn, is_unresolved, has_inverse};
 
 use crate::Unanswered;
 use crate::finding::branch_of;
@@ -21,27 +21,27 @@ use std::cmp::Ordering;
 
 /// Returns the pairs of patches that are in an unresolved conflict: each once, the lesser name first, in
 /// ascending order.
-pub fn open_pairs(state: &State, branch: &Name) -> Result<Conflicts, Unanswered>
-    ensures exact { ReportsAnswerOrMemory (AreOpen state.now branch.now) result }
+pub fn unresolved_pairs(state: &State, branch: &Name) -> Result<Conflicts, Unanswered>
+    ensures exact { ReportsAnswerOrMemory (AreUnresolved state.now branch.now) result }
 {
     let branch = branch_of(state, branch)?;
-    answer_or_memory(open_in(branch))
+    answer_or_memory(unresolved_in(branch))
 }
 
 /// Returns the unresolved conflicts of a branch.
-pub(crate) fn open_in(branch: &Branch) -> Result<Conflicts, AllocError>
-    ensures { IfOk result (AreOpenIn branch.now) }
+pub(crate) fn unresolved_in(branch: &Branch) -> Result<Conflicts, AllocError>
+    ensures { IfOk result (AreUnresolvedIn branch.now) }
 {
-    let pairs = open_among(branch.catches(), &labels_seen(branch)?)?;
+    let pairs = unresolved_among(branch.catches(), &labels_seen(branch)?)?;
     Ok(Conflicts::new(pairs))
 }
 
 /// Returns the unresolved conflicts of a branch, given its labels in conflict.
-pub(crate) fn open_among(
+pub(crate) fn unresolved_among(
     catches: &SharedList<Shared<Catch>>,
     seen: &CtxSet,
 ) -> Result<Vec<(Name, Name)>, AllocError>
-    ensures { IfOk result (λ pairs. AreOpenAmong catches.now seen.now pairs.items) }
+    ensures { IfOk result (λ pairs. AreUnresolvedAmong catches.now seen.now pairs.items) }
 {
     let mut pairs = collected(catches, seen)?;
     pairs.sort_unstable();
@@ -54,7 +54,7 @@ fn collected(
     catches: &SharedList<Shared<Catch>>,
     seen: &CtxSet,
 ) -> Result<Vec<(Name, Name)>, AllocError>
-    ensures { IfOk result (λ pairs. pairs.items ≡ open_in seen.now catches.now) }
+    ensures { IfOk result (λ pairs. pairs.items ≡ unresolved_in seen.now catches.now) }
 {
     let mut pairs = Vec::new(catches.allocator());
     for catch in catches.iter() {
@@ -68,12 +68,12 @@ fn collect_from(
     seen: &CtxSet,
     pairs: &mut Vec<(Name, Name)>,
 ) -> Result<(), AllocError>
-    ensures { OnOk result (pairs.new.items ≡ pairs.old.items ++ open_at seen.now catch.now) }
+    ensures { OnOk result (pairs.new.items ≡ pairs.old.items ++ unresolved_of_catch seen.now catch.now) }
 {
     match catch {
         Catch::Plain(_) => Ok(()),
         Catch::Conflictor(k) => {
-            if !is_open(seen, &k.identity.key()) {
+            if !is_unresolved(seen, &k.identity.key()) {
                 return Ok(());
             }
             collect_members(k.identity.name(), &k.conflicts, seen, pairs)
@@ -87,7 +87,7 @@ fn collect_members(
     seen: &CtxSet,
     pairs: &mut Vec<(Name, Name)>,
 ) -> Result<(), AllocError>
-    ensures { OnOk result (pairs.new.items ≡ pairs.old.items ++ flat_map (pair_of name.now) (open_within seen.now set.now)) }
+    ensures { OnOk result (pairs.new.items ≡ pairs.old.items ++ flat_map (pair_of name.now) (unresolved_within seen.now set.now)) }
 {
     for index in 0..set.len() {
         if let Some(member) = set.at(index) {
@@ -103,9 +103,9 @@ fn collect_member(
     seen: &CtxSet,
     pairs: &mut Vec<(Name, Name)>,
 ) -> Result<(), AllocError>
-    ensures { OnOk result (pairs.new.items ≡ pairs.old.items ++ open_with seen.now name.now member.now) }
+    ensures { OnOk result (pairs.new.items ≡ pairs.old.items ++ unresolved_with seen.now name.now member.now) }
 {
-    if !is_open(seen, &member.key()) {
+    if !is_unresolved(seen, &member.key()) {
         return Ok(());
     }
     push_pair(name, member.name(), pairs)
@@ -124,17 +124,17 @@ fn push_pair(name: &Name, other: &Name, pairs: &mut Vec<(Name, Name)>) -> Result
 }
 
 /// True if a label is in conflict and its patch can be inserted without undoing anything.
-fn is_open(seen: &CtxSet, key: &Key) -> bool
-    ensures { result ≡ is_open seen.now key.now }
+fn is_unresolved(seen: &CtxSet, key: &Key) -> bool
+    ensures { result ≡ is_unresolved seen.now key.now }
 {
     match seen.get(key) {
-        Some(x) => !takes_back(x),
+        Some(x) => !has_inverse(x),
         None => false,
     }
 }
 
-fn takes_back(x: &Contexted) -> bool
-    ensures { result ≡ takes_back x.now }
+fn has_inverse(x: &Contexted) -> bool
+    ensures { result ≡ has_inverse x.now }
 {
     x.context().items().iter().any(|p| p.inverse)
 }

@@ -1,5 +1,6 @@
-//! Moves labels in conflict from after changes to before them. Most changes leave a label unchanged, or move it only to
-//! another line; these are passed quickly. Any other change is added as the definition says.
+//! Moves the contexted patches of labels in conflict from after changes to before them. Most changes leave a contexted
+//! patch unchanged, or move it only to another line; these are passed quickly. Any other change is added as the
+//! definition says.
 ghost use Rattle.std.specs.Prelude.{◌≡◌, ◌+◌, ◌<◌, ◌≤◌, ◌↔◌, [], drop, length, IfOk, IfSome, IsTrue};
 ghost use Rattle.camp_ctx.specs.Adding.{AddsAll};
 ghost use Rattle.camp_ctx.specs.Contexts.{bare};
@@ -18,8 +19,8 @@ use std::alloc::{AllocError, Global};
 /// The greatest sum of a hunk's line and the counts of its old and of its new lines.
 const MOST_REACH: usize = 1 << 30;
 
-/// Moves a contexted patch from after changes to before them. As long as no change can be passed quickly, the number of
-/// changes added at once is doubled.
+/// Moves a contexted patch from after changes to before them. Changes that can't be passed quickly are added in groups,
+/// each twice as long as the one before as long as none is passed quickly.
 pub(crate) fn seen_before(
     alloc: Global,
     changes: &[Named],
@@ -40,7 +41,8 @@ pub(crate) fn seen_before(
     Ok(seen)
 }
 
-/// Returns the number of changes to add next: one if some were passed quickly, else twice as many as before.
+/// Returns the length of the next group of changes to add: 1 if some changes were passed quickly, else twice that of
+/// the group before.
 fn next_most(most: usize, none_passed: bool) -> usize
     requires { 1 ≤ most }
     ensures { 1 ≤ result }
@@ -58,8 +60,8 @@ fn added(alloc: Global, changes: &[Named], x: &Contexted) -> Result<Contexted, A
     Contexted::add_given(join(alloc, changes, &[])?, x)
 }
 
-/// Passes changes quickly, from the last one on, as far as possible. Returns the index of the first that was passed,
-/// and the label before it.
+/// Passes changes quickly, from the last one on, as far as possible. Returns the index of the first change that was
+/// passed, and the contexted patch as it is before that change.
 fn passed_by(
     alloc: Global,
     changes: &[Named],
@@ -76,20 +78,20 @@ fn passed_by(
     Ok((stop, moved))
 }
 
-/// Returns the index from which on all changes leave a label unchanged.
+/// Returns the index from which on all changes leave a contexted patch unchanged.
 fn stays_from(changes: &[Named], x: &Contexted) -> usize
     ensures within { result ≤ length changes.now }
     ensures added { AddsAll (drop result changes.now) x.now x.now }
 {
     for at in (0..changes.len()).rev() {
-        if !x.stays_behind(&changes[at]) {
+        if !x.stays_unchanged(&changes[at]) {
             return at + 1;
         }
     }
     0
 }
 
-/// Returns the hunk of a label without a context; `None` for any other label.
+/// Returns the hunk of a contexted patch without a context; `None` for any other contexted patch.
 fn hunk_alone(x: &Contexted) -> Option<&Hunk>
     ensures none { IfSome result (λ hunk. x.now.context ≡ []) }
     ensures is { IfSome result (λ hunk. x.now.patch.prim ≡ primitive.Hunk hunk.now) }
@@ -199,7 +201,7 @@ fn line_above(other: &Hunk, hunk: &Hunk, line: u32) -> Option<u32>
     Some(line)
 }
 
-/// Returns a label without a context, with its hunk at another line.
+/// Returns a contexted patch without a context, with its hunk at another line.
 fn moved_to(alloc: Global, x: &Contexted, hunk: &Hunk, line: u32) -> Result<Contexted, AllocError>
     requires none { x.now.context ≡ [] }
     requires is { x.now.patch.prim ≡ primitive.Hunk hunk.now }

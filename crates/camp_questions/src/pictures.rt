@@ -5,13 +5,13 @@ ghost use Rattle.camp_branch.specs.Branches.{is_among};
 ghost use Rattle.camp_branch.specs.Fields.{has_name, names_in};
 ghost use Rattle.camp_questions.specs.Answers.{ReportsAnswerOrMemory};
 ghost use Rattle.camp_questions.specs.Graphs.{Drawn, IsGraph};
-ghost use Rattle.camp_questions.specs.OpenConflicts.{AreOpenIn};
-ghost use Rattle.camp_questions.specs.Pictures.{IsPictured, drawn_about, hangs_on, kept_node, part_with, whole_picture, with_needing, with_needing_one, with_needs, with_needs_of};
+ghost use Rattle.camp_questions.specs.OpenConflicts.{AreUnresolvedIn};
+ghost use Rattle.camp_questions.specs.Pictures.{IsPictured, graph_part, is_one_or_neighbour, kept_node, part_with, whole_picture, with_needing, with_needing_one, with_needs, with_needs_of};
 
 use crate::finding::branch_with;
 use crate::graphs::graph_of;
 use crate::keeping::keep_named;
-use crate::open_conflicts::open_in;
+use crate::open_conflicts::unresolved_in;
 use crate::related::part_of_one;
 use crate::reporting::answer_or_memory;
 use crate::{Node, PatchGraph, Unanswered};
@@ -76,10 +76,10 @@ pub fn picture_of(state: &State, branch: &Name, names: &[Name]) -> Result<Pictur
 
 fn picture_in(branch: &Branch, names: &[Name]) -> Result<Picture, AllocError>
     ensures { IfOk result (λ picture. (graph : Drawn) × (pairs : List (List ℕ × List ℕ))
-        × (picture ≡ drawn_about names.now (whole_picture graph pairs)) × IsGraph branch.now graph × AreOpenIn branch.now pairs) }
+        × (picture ≡ graph_part names.now (whole_picture graph pairs)) × IsGraph branch.now graph × AreUnresolvedIn branch.now pairs) }
 {
     let part = part_in(branch, names)?;
-    let unsettled = open_in(branch)?;
+    let unsettled = unresolved_in(branch)?;
     let (patches, conflicts) = part.into_parts();
     Ok(Picture {
         patches,
@@ -88,23 +88,23 @@ fn picture_in(branch: &Branch, names: &[Name]) -> Result<Picture, AllocError>
     })
 }
 
-/// Returns the graph of a branch, or the part of it that belongs to given patches. The part that belongs to one patch
-/// is found without the rest of the graph, unless it is large.
+/// Returns the graph of a branch, or the part of it that belongs to given patches. A small part that belongs to one
+/// patch is found without making the whole graph.
 fn part_in(branch: &Branch, names: &[Name]) -> Result<PatchGraph, AllocError>
     ensures { IfOk result (λ part. (graph : Drawn) × IsGraph branch.now graph
-        × ((pairs : List (List ℕ × List ℕ)) → whole_picture part pairs ≡ drawn_about names.now (whole_picture graph pairs))) }
+        × ((pairs : List (List ℕ × List ℕ)) → whole_picture part pairs ≡ graph_part names.now (whole_picture graph pairs))) }
 {
     if names.len() == 1 {
         if let Some(part) = part_of_one(branch, &names[0])? {
             return Ok(part);
         }
     }
-    drawn_about(branch.catches().allocator(), names, graph_of(branch)?)
+    graph_part(branch.catches().allocator(), names, graph_of(branch)?)
 }
 
 /// Returns the whole graph, or the part of it with patches, their dependencies and their dependents.
-fn drawn_about(alloc: Global, names: &[Name], whole: PatchGraph) -> Result<PatchGraph, AllocError>
-    ensures { IfOk result (λ part. (pairs : List (List ℕ × List ℕ)) → whole_picture part pairs ≡ drawn_about names.now (whole_picture whole pairs)) }
+fn graph_part(alloc: Global, names: &[Name], whole: PatchGraph) -> Result<PatchGraph, AllocError>
+    ensures { IfOk result (λ part. (pairs : List (List ℕ × List ℕ)) → whole_picture part pairs ≡ graph_part names.now (whole_picture whole pairs)) }
 {
     if names.is_empty() {
         return Ok(whole);
@@ -115,17 +115,17 @@ fn drawn_about(alloc: Global, names: &[Name], whole: PatchGraph) -> Result<Patch
 /// Returns the part of a graph with these patches, their dependencies and their dependents.
 fn part_about(alloc: Global, names: &[Name], whole: &PatchGraph) -> Result<PatchGraph, AllocError>
     ensures { IfOk result (λ part. (pairs : List (List ℕ × List ℕ)) →
-        whole_picture part pairs ≡ part_with (hangs_on whole.now.patches names.now) (whole_picture whole.now pairs)) }
+        whole_picture part pairs ≡ part_with (is_one_or_neighbour whole.now.patches names.now) (whole_picture whole.now pairs)) }
 {
-    let kept = hanging_on(alloc, whole.patches(), names)?;
+    let kept = with_neighbours(alloc, whole.patches(), names)?;
     let patches = kept_nodes(alloc, &kept, whole.patches())?;
     let conflicts = kept_pairs(&kept, whole.conflicts())?;
     Ok(PatchGraph { patches, conflicts })
 }
 
 /// Returns the names of patches, of their dependencies and of their dependents.
-fn hanging_on(alloc: Global, nodes: &[Node], names: &[Name]) -> Result<NameSet, AllocError>
-    ensures { IfOk result (λ set. (name : List ℕ) → is_among (names_in set) name ≡ hangs_on nodes.now names.now name) }
+fn with_neighbours(alloc: Global, nodes: &[Node], names: &[Name]) -> Result<NameSet, AllocError>
+    ensures { IfOk result (λ set. (name : List ℕ) → is_among (names_in set) name ≡ is_one_or_neighbour nodes.now names.now name) }
 {
     let mut all = needed(alloc, nodes, names)?;
     let needing = needing(alloc, nodes, names)?;
@@ -139,13 +139,13 @@ fn needed(alloc: Global, nodes: &[Node], names: &[Name]) -> Result<Vec<Name>, Al
 {
     let mut needed = Vec::from_slice(alloc, names)?;
     for at in (0..nodes.len()).rev() {
-        bring_needs(&mut needed, &nodes[at])?;
+        add_dependencies(&mut needed, &nodes[at])?;
     }
     Ok(needed)
 }
 
-/// Appends to names the direct dependencies of a patch that is among them.
-fn bring_needs(names: &mut Vec<Name>, node: &Node) -> Result<(), AllocError>
+/// Appends the direct dependencies of a patch to names if the patch is among them.
+fn add_dependencies(names: &mut Vec<Name>, node: &Node) -> Result<(), AllocError>
     ensures { OnOk result (names.new.items ≡ with_needs_of node.now names.old.items) }
 {
     if !has(names, &node.name) {
@@ -165,7 +165,7 @@ fn needing(alloc: Global, nodes: &[Node], names: &[Name]) -> Result<Vec<Name>, A
     Ok(needing)
 }
 
-/// Appends to names a patch that depends directly on one of them.
+/// Appends a patch to names if it depends directly on one of them.
 fn join_needing(names: &mut Vec<Name>, node: &Node) -> Result<(), AllocError>
     ensures { OnOk result (names.new.items ≡ with_needing_one names.old.items node.now) }
 {

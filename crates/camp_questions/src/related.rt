@@ -7,8 +7,8 @@ ghost use Rattle.camp_questions.specs.Inside.Graphing.{IsInverted};
 ghost use Rattle.camp_questions.specs.Inside.PartsOfOne.{AreMarkedAmong, AreRelated, IsPartOfOne};
 
 use crate::PatchGraph;
-use crate::dependencies::{held_there, in_order, needed_in};
-use crate::fast::{PatchCatches, held_in, taken_back};
+use crate::dependencies::{dependents_in, in_order, needed_in};
+use crate::fast::{PatchCatches, dependents_by_pass, inverted_patches};
 use crate::needed::{Needed, marks_of};
 use crate::nodes::nodes;
 use crate::pictures::kept_pairs;
@@ -29,7 +29,7 @@ pub(crate) fn part_of_one(branch: &Branch, name: &Name) -> Result<Option<PatchGr
         return Ok(None);
     }
     let catches = branch.catches().to_vec()?;
-    let Some(mut back) = taken_back(alloc, &catches)? else {
+    let Some(mut back) = inverted_patches(alloc, &catches)? else {
         return Ok(None);
     };
     back.reverse();
@@ -41,8 +41,8 @@ pub(crate) fn part_of_one(branch: &Branch, name: &Name) -> Result<Option<PatchGr
     Ok(Some(part))
 }
 
-/// True if a part with `related` patches is less work than the graph of a branch with `all` catches: each of these
-/// patches costs a pass over the branch, in which each catch is compared with up to `related` others.
+/// True if finding a part with `related` patches takes less work than making the graph of a branch with `all` catches.
+/// Each patch of the part costs a pass over the branch, in which each catch is compared with up to `related` others.
 fn is_small(related: usize, all: usize) -> bool {
     related.saturating_mul(related) <= all
 }
@@ -53,7 +53,7 @@ fn related(branch: &Branch, name: &Name) -> Result<Names, AllocError>
 {
     let alloc = branch.catches().allocator();
     let needed = needed_in(branch, slice::from_ref(name))?;
-    let held = held_there(branch, slice::from_ref(name))?;
+    let held = dependents_in(branch, slice::from_ref(name))?;
     let mut all = Vec::from_slice(alloc, needed.as_slice())?;
     all.extend_from_slice(held.as_slice())?;
     let set = set_of(alloc, &all)?;
@@ -61,8 +61,8 @@ fn related(branch: &Branch, name: &Name) -> Result<Names, AllocError>
     Ok(related)
 }
 
-/// Returns the part of the graph with these patches, all related to one. `back` has the patches of the branch with
-/// their catches inverted, the last first.
+/// Returns the part of the graph that has these patches: one patch, its dependencies and its dependents. `back` has the
+/// patches of the branch with their catches inverted, the last first.
 fn part_of(branch: &Branch, back: &[PatchCatches], names: &[Name]) -> Result<PatchGraph, AllocError>
     requires inverted { IsInverted branch.now (reverse back.now) }
     requires related { (name : List ℕ) × AreRelated branch.now name names.now }
@@ -90,7 +90,7 @@ fn needed_among(
     let mut all = Vec::with_capacity(alloc, names.len())?;
     for name in names {
         let named = set_of(alloc, slice::from_ref(name))?;
-        let grown = held_in(alloc, back, named)?;
+        let grown = dependents_by_pass(alloc, back, named)?;
         let needs = marks_of(alloc, names, &grown)?;
         all.push(Needed { name: *name, needs })?;
     }

@@ -1,6 +1,7 @@
 //! The sides of patches in conflict, as seen from the end of a branch.
-ghost use Rattle.std.specs.Prelude.{◌≡◌, List, [], ◌∷◌, ◌++◌, is_some, IfOk, OnOk};
+ghost use Rattle.std.specs.Prelude.{◌≡◌, ◌≤◌, length, List, [], ◌∷◌, ◌++◌, is_some, IfOk, OnOk};
 ghost use Rattle.std.specs.FinMap.{get};
+ghost use Rattle.std.specs.List.{prefix_len};
 ghost use Rattle.std.specs.Ordering.{eq_by_cmp};
 ghost use Rattle.camp_catch.specs.declared.catches.Catch.TheVariants as catch;
 ghost use Rattle.camp_prim.specs.Labels.{key_cmp, key_of, label_of};
@@ -8,7 +9,7 @@ ghost use Rattle.camp_prim.specs.declared.labels.Key.{Key as AnyKey};
 ghost use Rattle.camp_prim.specs.declared.named.Named.{Named as AnyNamed};
 ghost use Rattle.camp_seq.specs.Running.{inverse_all};
 ghost use Rattle.camp_questions.specs.Answers.{ReportsAnswerOrMemory};
-ghost use Rattle.camp_questions.specs.Inside.Seeing.{AllSeenToo, ComesIfNamed, SeenToo};
+ghost use Rattle.camp_questions.specs.Inside.Seeing.{AllGathered, AppendsIfNamed, IsGathered, from_first_conflictor, is_plain_catch};
 ghost use Rattle.camp_questions.specs.Showing.{changes_in};
 ghost use Rattle.camp_questions.specs.Sides.{AreSeen, AppendsNew, IsSide, IsSideAmong, IsSideIn, has_key, contexted_in};
 
@@ -23,17 +24,18 @@ use camp_ctx::{Contexted, CtxSet};
 use camp_prim::{Key, Named, Primitive};
 use camp_repo::{Branch, State};
 use camp_seq::{Seq, invert_all};
+use camp_share::{Shared, SharedList};
 use std::alloc::{AllocError, Global};
 use std::marker::Model;
 use std::slice;
 
 /// The side of a patch in conflict.
 #[derive(Drop)]
-pub struct Said {
+pub struct SideChanges {
     changes: Vec<Primitive>,
 }
 
-impl Model for Said {
+impl Model for SideChanges {
     ghost use Rattle.std.specs.Prelude.{List};
     ghost use Rattle.camp_prim.specs.declared.primitives.Primitive.{Primitive};
 
@@ -42,9 +44,9 @@ impl Model for Said {
     ghost view = { λ said. said.changes.items };
 }
 
-impl Said {
-    /// Returns the changes that apply the patch at the end of the branch, in order. They may be more than 64, the most
-    /// of one patch.
+impl SideChanges {
+    /// Returns the changes that apply the patch at the end of the branch, in order. There may be more than 64, which no
+    /// record of one patch allows.
     pub fn changes(&self) -> &[Primitive]
         ensures value { result.now ≡ self.now }
     {
@@ -60,20 +62,20 @@ impl Said {
 }
 
 /// Returns the side of a patch in a branch; empty if the patch is in no conflict.
-pub fn side(state: &State, branch: &Name, name: &Name) -> Result<Said, Unanswered>
+pub fn side(state: &State, branch: &Name, name: &Name) -> Result<SideChanges, Unanswered>
     ensures exact { ReportsAnswerOrMemory (IsSide state.now branch.now name.now) result }
 {
     let branch = branch_with(state, branch, slice::from_ref(name))?;
-    answer_or_memory(said_in(branch, name))
+    answer_or_memory(side_in_branch(branch, name))
 }
 
 /// Makes the side of a patch, which the branch has.
-fn said_in(branch: &Branch, name: &Name) -> Result<Said, AllocError>
+fn side_in_branch(branch: &Branch, name: &Name) -> Result<SideChanges, AllocError>
     ensures { IfOk result (λ changes. (side : List AnyNamed) × (changes ≡ changes_in side) × IsSideIn branch.now name.now side) }
 {
     let side = side_in(branch, name)?;
     let changes = changes_in(branch.catches().allocator(), side.items())?;
-    Ok(Said { changes })
+    Ok(SideChanges { changes })
 }
 
 /// Returns the side of a patch in a branch.
@@ -84,28 +86,61 @@ fn side_in(branch: &Branch, name: &Name) -> Result<Seq, AllocError>
     side_among(branch.catches().allocator(), &seen, name)
 }
 
-/// Returns the labels in conflict of a branch, as seen from its end: from the last catch to the first, with
-/// the inverses of the effects after it added.
+/// Returns the labels in conflict of a branch, each with its contexted patch as seen from the end of the branch:
+/// gathered from the last catch to the first conflictor, with the inverses of the effects after the catch added.
 pub(crate) fn labels_seen(branch: &Branch) -> Result<CtxSet, AllocError>
     ensures { IfOk result (λ seen. AreSeen branch.now seen) }
 {
     let alloc = branch.catches().allocator();
-    let catches = branch.catches().to_vec()?;
+    let catches = from_first_conflictor(branch.catches())?;
     let mut undone = Seq::empty(alloc);
     let mut seen = CtxSet::empty(alloc);
     for at in (0..catches.len()).rev() {
         let catch = &catches[at];
-        seen = with_told(alloc, seen, catch, &undone)?;
+        seen = with_labels_of(alloc, seen, catch, &undone)?;
         append_inverse(&mut undone, catch.effect())?;
     }
     Ok(seen)
 }
 
+/// Returns the catches of a branch from its first conflictor on, before which no label is in conflict.
+fn from_first_conflictor(
+    catches: &SharedList<Shared<Catch>>,
+) -> Result<Vec<Shared<Catch>>, AllocError>
+    ensures { IfOk result (λ rest. rest.items ≡ from_first_conflictor catches.now) }
+{
+    catches.range_to_vec(first_conflictor(catches), catches.len())
+}
+
+/// Returns the index of the first conflictor; the length of the list if there is none.
+fn first_conflictor(catches: &SharedList<Shared<Catch>>) -> usize
+    ensures index { result ≡ prefix_len is_plain_catch catches.now }
+    ensures within { result ≤ length catches.now }
+{
+    // A fact for the prover: a length fits in a `usize`.
+    prove!(catches.len() <= usize::MAX);
+    catches
+        .iter()
+        .take_while(|catch| is_plain_catch(catch))
+        .count()
+}
+
+fn is_plain_catch(catch: &Catch) -> bool
+    ensures { result ≡ is_plain_catch catch.now }
+{
+    matches!(catch, Catch::Plain(_))
+}
+
 /// Returns the labels in conflict gathered so far, with those of one more catch; `undone` has the inverses of the
 /// effects after it.
-fn with_told(alloc: Global, seen: CtxSet, catch: &Catch, undone: &Seq) -> Result<CtxSet, AllocError>
+fn with_labels_of(
+    alloc: Global,
+    seen: CtxSet,
+    catch: &Catch,
+    undone: &Seq,
+) -> Result<CtxSet, AllocError>
     ensures { IfOk result (λ next. (key : AnyKey) →
-        SeenToo undone.now (get seen key) (contexted_in catch.now key) (get next key)) }
+        IsGathered undone.now (get seen key) (contexted_in catch.now key) (get next key)) }
 {
     match catch {
         Catch::Plain(_) => Ok(seen),
@@ -120,7 +155,7 @@ fn with_conflictor(
     undone: &Seq,
 ) -> Result<CtxSet, AllocError>
     ensures { IfOk result (λ next. (key : AnyKey) →
-        SeenToo undone.now (get was key) (contexted_in (catch.Conflictor k.now) key) (get next key)) }
+        IsGathered undone.now (get was key) (contexted_in (catch.Conflictor k.now) key) (get next key)) }
 {
     let mut seen = with_label(alloc, was, &k.identity, undone)?;
     for index in 0..k.conflicts.len() {
@@ -138,7 +173,7 @@ fn with_label(
     x: &Contexted,
     undone: &Seq,
 ) -> Result<CtxSet, AllocError>
-    ensures { IfOk result (AllSeenToo undone.now (x.now ∷ []) seen) }
+    ensures { IfOk result (AllGathered undone.now (x.now ∷ []) seen) }
 {
     if is_seen(&seen, &x.key()) {
         return Ok(seen);
@@ -178,7 +213,7 @@ pub(crate) fn side_among(alloc: Global, seen: &CtxSet, name: &Name) -> Result<Se
 
 /// Appends a contexted patch to changes if it belongs to the patch of a name.
 fn append_named(side: &mut Seq, name: &Name, x: &Contexted) -> Result<(), AllocError>
-    ensures { OnOk result (ComesIfNamed side.old name.now x.now side.new) }
+    ensures { OnOk result (AppendsIfNamed side.old name.now x.now side.new) }
 {
     if name != x.name() {
         return Ok(());

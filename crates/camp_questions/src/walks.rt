@@ -4,8 +4,8 @@ ghost use Rattle.std.specs.FinMap.{get, insert};
 ghost use Rattle.camp_base.specs.Trees.{Files};
 ghost use Rattle.camp_prim.specs.Labels.{key_of, label_of};
 ghost use Rattle.camp_branch.specs.Branches.{LeadsTo};
-ghost use Rattle.camp_questions.specs.Annotations.{known_after_all, known_after_change, known_after_hunk, names_coming, names_of_lines, nothing_known, own_names};
-ghost use Rattle.camp_questions.specs.Inside.Walking.{AppliesOn, FollowsOn, LiesWithin, kept_in, known_in};
+ghost use Rattle.camp_questions.specs.Annotations.{known_after_all, known_after_change, known_after_hunk, new_line_names, names_of_lines, nothing_known, own_names};
+ghost use Rattle.camp_questions.specs.Inside.Walking.{AppliesWithNames, EffectAppliesWithNames, LiesWithin, kept_in, known_in};
 
 use crate::common_lines::{common_end, common_front};
 use camp_base::{Name, Path};
@@ -23,7 +23,7 @@ pub(crate) fn names_of_lines(
     requires { (tree : Files) × LeadsTo catches.now tree }
     ensures { IfOk result (λ names. names ≡ names_of_lines path.now catches.now) }
 {
-    let mut walk = Walk::new(catches.allocator());
+    let mut walk = Annotation::new(catches.allocator());
     for catch in catches.iter() {
         walk.after_effect(path, catch.name(), catch.effect())?;
     }
@@ -33,16 +33,16 @@ pub(crate) fn names_of_lines(
 /// The state of an annotation after some effects: for each line of a file the name of the patch that added it, and for
 /// each hunk the names of the lines that it removed.
 #[derive(Drop)]
-struct Walk {
+struct Annotation {
     names: SharedList<Name>,
     taken: BTreeMap<Key, SharedList<Name>>,
 }
 
-impl Walk {
-    fn new(alloc: Global) -> Walk
+impl Annotation {
+    fn new(alloc: Global) -> Annotation
         ensures { known_in result ≡ nothing_known }
     {
-        Walk {
+        Annotation {
             names: SharedList::new(alloc),
             taken: BTreeMap::new(alloc),
         }
@@ -50,7 +50,7 @@ impl Walk {
 
     /// Advances the state by an effect of a patch of this name.
     fn after_effect(&mut self, path: &Path, name: &Name, effect: &[Named]) -> Result<(), AllocError>
-        requires { FollowsOn path.now effect.now (known_in self.old) }
+        requires { EffectAppliesWithNames path.now effect.now (known_in self.old) }
         ensures { OnOk result (known_in self.new ≡ known_after_all path.now name.now effect.now (known_in self.old)) }
     {
         for p in effect {
@@ -61,7 +61,7 @@ impl Walk {
 
     // Advances the state by a primitive: only hunks of the file change it.
     fn after_change(&mut self, path: &Path, name: &Name, p: &Named) -> Result<(), AllocError>
-        requires { AppliesOn path.now p.now.prim (known_in self.old) }
+        requires { AppliesWithNames path.now p.now.prim (known_in self.old) }
         ensures { OnOk result (known_in self.new ≡
             known_after_change path.now name.now (key_of (label_of p.now)) p.now.prim (known_in self.old)) }
     {
@@ -82,14 +82,14 @@ impl Walk {
         let from = hunk.line() as usize - 1;
         let to = from + hunk.old().len();
         let gone = self.names.copied(from, to)?;
-        let coming = names_behind(&mut self.taken, name, key, hunk, gone)?;
+        let coming = names_after_hunk(&mut self.taken, name, key, hunk, gone)?;
         self.names = self.names.spliced(from, to, &coming)?;
         Ok(())
     }
 }
 
 // Returns the names of the new lines of a hunk; stores those of its old lines under its key.
-fn names_behind(
+fn names_after_hunk(
     taken: &mut BTreeMap<Key, SharedList<Name>>,
     name: &Name,
     key: Key,
@@ -98,16 +98,16 @@ fn names_behind(
 ) -> Result<Vec<Name>, AllocError>
     requires { length gone ≡ length hunk.now.old }
     ensures coming { IfOk result (λ coming.
-        coming.items ≡ names_coming (get (kept_in taken.old) key) (own_names gone name.now hunk.now) (length hunk.now.new)) }
+        coming.items ≡ new_line_names (get (kept_in taken.old) key) (own_names gone name.now hunk.now) (length hunk.now.new)) }
     ensures kept { OnOk result (kept_in taken.new ≡ insert (kept_in taken.old) key gone) }
 {
     let own = own_names(&gone, name, hunk)?;
-    let before = keep(taken, key, gone)?;
-    names_coming(before, own, hunk.new().len()).to_vec()
+    let before = store_names(taken, key, gone)?;
+    new_line_names(before, own, hunk.new().len()).to_vec()
 }
 
 // Stores names under a key, and returns those that were stored there.
-fn keep(
+fn store_names(
     taken: &mut BTreeMap<Key, SharedList<Name>>,
     key: Key,
     names: SharedList<Name>,
@@ -119,14 +119,14 @@ fn keep(
     Ok(before)
 }
 
-// Returns the names of the new lines of a hunk: those that its inverse removed, if there are as many, else
-// its own.
-fn names_coming(
+// Returns the names of the new lines of a hunk: the names of the lines that its inverse has removed, if there are as
+// many; else `own`.
+fn new_line_names(
     taken: Option<SharedList<Name>>,
     own: SharedList<Name>,
     count: usize,
 ) -> SharedList<Name>
-    ensures { result ≡ names_coming taken own count }
+    ensures { result ≡ new_line_names taken own count }
 {
     match taken {
         Some(taken) if taken.len() == count => taken,
@@ -134,8 +134,8 @@ fn names_coming(
     }
 }
 
-// Returns the names that a hunk itself gives to its new lines: those that are on both of its sides at the start or, of
-// the rest, at the end keep theirs; all others get the name of the patch.
+// Returns the names that a hunk gives to its new lines: the lines that its two sides have in common at the start and,
+// in what remains, at the end keep their names; all others get the name of the patch.
 fn own_names(
     gone: &SharedList<Name>,
     name: &Name,

@@ -10,7 +10,7 @@ use Rattle.camp_repo.specs.declared.beginnings.KnownBeginning.{KnownBeginning}
 abbrev pub catches_in : Branches → List (List Catch)
 catches_in branches = map (λ branch. branch.1) branches
 
--- a stored pair is right: there are branches at its two indexes, and their prefixes of this length agree
+-- a stored pair is right: the branches at its two indexes exist, and their prefixes of the stored length agree
 pub record AgreesIn (branches : List (List Catch)) (known : KnownBeginning) : Type 0 where
   pub theirs : List Catch
   pub ours : List Catch

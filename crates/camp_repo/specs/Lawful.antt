@@ -6,8 +6,8 @@ use Rattle.camp_catch.specs.declared.catches.Catch.{Catch}
 use Rattle.camp_branch.specs.Branches.{AreDistinct, HasPatches, LeadsTo, Patch}
 use Rattle.camp_repo.specs.States.{Branches, Contents}
 
--- a branch is lawful, given the number of changes of each patch: its labels are those of patches with these numbers of
--- changes, the labels of one patch together, at positions from 1; and its catches fit one after the other
+-- a branch is lawful, and `changes_of` gives the number of changes of each of its patches: its labels are those of its
+-- patches, patch by patch, at positions from 1; and its catches fit one after the other from the empty tree
 pub record IsLawfulBy (changes_of : List ℕ → ℕ) (catches : List Catch) : Type 0 where
   pub patches : List Patch
   pub has : HasPatches catches patches

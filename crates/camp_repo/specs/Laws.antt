@@ -52,8 +52,8 @@ pub record Records (branch name : List ℕ) (changes : List Primitive) (old new 
   pub leads : LeadsTo catches tree
   pub applies : AppliesEach changes tree next_tree
 
--- further catches are appended to a branch; its names are its old ones followed by the wanted ones, in the order of the
--- other branch
+-- further catches are appended to a branch; its patches are its old ones followed by the wanted ones, in the order of
+-- the other branch
 pub record Pulls (from to : List ℕ) (names : Option (List (List ℕ))) (old new : Contents) : Type 0 where
   pub changes_one : ChangesOne to old new
   pub theirs : List Catch

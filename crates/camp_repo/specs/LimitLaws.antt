@@ -14,7 +14,8 @@ use Rattle.camp_repo.specs.States.{Contents, catches_of, stands, tree_of}
 use Rattle.camp_repo.specs.Steps.{accepted, becomes, catches_named, changed, has_long_side, is_empty, is_patch_sized}
 use Rattle.camp_repo.specs.Steps.{listed, record_leads, refused, step, wanted}
 
--- two branches of a state, and listed names of which one branch has all and the other lacks at least one
+-- a pull passes the tests before that of the limit: both branches exist, they differ, and `from` has all listed names,
+-- at least one of which `to` lacks
 pub record CanPull (state : Contents) (from to : List ℕ) (names : Option (List (List ℕ))) (theirs ours : List Catch) : Type 0 where
   pub from_has : Has state from theirs
   pub to_has : Has state to ours
@@ -22,8 +23,8 @@ pub record CanPull (state : Contents) (from to : List ℕ) (names : Option (List
   pub has_listed : first_lacked theirs (listed theirs names) ≡ None
   pub some_wanted : is_empty (wanted ours (listed theirs names)) ≡ false
 
--- a state has these limits on catches and branches: a call that passes the tests before the test of a limit is refused
--- as too large exactly if the limit would be exceeded
+-- a state has these limits on catches and branches: a call that passes all earlier tests is refused as too large
+-- exactly if it would exceed a limit
 pub record Holds (most_catches most_branches : ℕ) (state : Contents) : Type 0 where
   pub full : (new from : List ℕ) (catches : List Catch)
       → Has state from catches → catches_of state.branches new ≡ None → most_branches ≤ length state.branches →
@@ -48,7 +49,7 @@ pub record Holds (most_catches most_branches : ℕ) (state : Contents) : Type 0 
       → length ours + length (catches_named (wanted ours (listed theirs names)) theirs) ≤ most_catches →
       step state (call.Pull from to names) ≡ becomes state to (pulled theirs ours (wanted ours (listed theirs names)))
 
--- the limits stored in a state are those that its calls obey
+-- the calls on a state obey the limits that are stored in it
 abbrev pub StatesHoldTheirLimits : Type 0
 StatesHoldTheirLimits = (state : Contents) → Holds state.limits.catches state.limits.branches state
 

@@ -24,7 +24,7 @@ use Rattle.camp_repo.specs.States.{Contents, after, catches_of, new_within, stan
 use Rattle.camp_repo.specs.Steps.{Decision, becomes, changed, is_empty, is_full_with, is_too_large}
 use Rattle.camp_repo.specs.Steps.{listed, record_leads, refused, refused_if, shown, step, wanted}
 
--- P holds of a decision that is a next state, and Q of one that is a reply
+-- P holds of the next state if the decision is one, and Q of the reply if the decision is one
 abbrev pub Comes : (Contents → Type 0) → (Reply → Type 0) → Decision → Type 0
 Comes P Q (Next state) = P state
 Comes P Q (Answer answer) = Q answer

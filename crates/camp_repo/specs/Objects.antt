@@ -23,7 +23,7 @@ reply_number (reply.Tree tree) = None
 reply_number (reply.Conflicts pairs) = None
 reply_number (reply.Names names) = None
 
--- a repository with these limits as an object: it accepts a call if the decision is a next state
+-- a repository with these limits as an object; it accepts a call exactly if the decision on it is a next state
 abbrev pub repository_within : Bounds → Sequential Contents Call Reply
 repository_within limits = record {
   initial = new_within limits;

@@ -41,11 +41,11 @@ refused refusal = Answer (reply.Refused refusal)
 abbrev pub accepted : Contents → Branches → Decision
 accepted state branches = Next (after state branches)
 
--- continues with the catches of the branch of a name; refuses if there is none
+-- the decision made from the catches of the branch of a name; a refusal if there is no such branch
 abbrev pub with_branch : Contents → List ℕ → (List Catch → Decision) → Decision
 with_branch state name goes_on = option_map_or goes_on (catches_of state.branches name) (refused (NoBranch name))
 
--- refuses if a test finds a reason, else continues
+-- the given refusal if the test is true, else the next decision
 abbrev pub refused_if : Bool → Refusal → Decision → Decision
 refused_if fails refusal goes_on = if fails then refused refusal else goes_on
 
@@ -60,7 +60,7 @@ abbrev pub becomes : Contents → List ℕ → Outcome → Decision
 becomes state branch (Ok catches) = accepted state (with_catches state.branches branch catches)
 becomes state branch (Err why) = refused (refusal_of why)
 
--- the decision on copying a branch: the copy is the last branch, and the limit of branches is not exceeded
+-- the decision on copying a branch: if accepted, the copy becomes the last branch, within the limit of branches
 abbrev pub step_branch : Contents → List ℕ → List ℕ → Decision
 step_branch state new from =
     with_branch state from (λ catches.
@@ -91,7 +91,7 @@ abbrev pub led_to : Primitive → Option Files → Result Files Refusal
 led_to change None = Err DoesNotApply
 led_to change (Some tree) = if has_long_file (path_of change) tree then Err TooLarge else Ok tree
 
--- continues with the tree before it, or keeps the refusal
+-- the next result, made from the tree if there is one, else the refusal
 abbrev pub then_from : Result Files Refusal → (Files → Result Files Refusal) → Result Files Refusal
 then_from (Ok tree) goes_on = goes_on tree
 then_from (Err refusal) goes_on = Err refusal
@@ -106,18 +106,17 @@ abbrev pub record_leads : Contents → List ℕ → List Catch → Result Files 
 record_leads state branch catches (Ok tree) = accepted state (with_catches state.branches branch catches)
 record_leads state branch catches (Err refusal) = refused refusal
 
--- the number of changes is that of a patch: 1 to 64, as in each record that a program can represent
+-- the number of changes is one that a patch may have: 1 to 64, as in every record that a program can represent
 abbrev pub is_patch_sized : List Primitive → Bool
 is_patch_sized changes = nat_le 1 (length changes) && nat_le (length changes) most_changes
 
 -- a record is too large for a branch with this limit: the branch would have more catches, a side of a hunk is too long,
--- or the record does not have 1 to 64 changes, which no record of a program has
+-- or the record does not have 1 to 64 changes, which cannot be the case in a program
 abbrev pub is_too_large : ℕ → List Catch → List Primitive → Bool
 is_too_large most catches changes =
     nat_lt most (length catches + length changes) || (list_any has_long_side changes || not (is_patch_sized changes))
 
--- the decision on a record: the whole patch is appended to a branch, or nothing is; the limit of catches is not
--- exceeded
+-- the decision on a record: if accepted, the whole patch is appended to a branch, within the limit of catches
 abbrev pub step_record : Contents → List ℕ → List ℕ → List Primitive → Decision
 step_record state branch name changes =
     with_branch state branch (λ catches.
@@ -127,11 +126,11 @@ step_record state branch name changes =
     (λ tree. record_leads state branch (catches ++ recorded name 1 changes) (changed changes tree))
     (tree_of catches) (refused DoesNotApply))))
 
--- continues if a branch has all listed patches, else refuses
+-- the next decision if a branch has all listed patches, else a refusal
 abbrev pub with_patches : List Catch → List (List ℕ) → Decision → Decision
 with_patches catches names goes_on = option_map_or (λ name. refused (NoPatch name)) (first_lacked catches names) goes_on
 
--- the listed names or, without a list, those of all patches
+-- the listed names or, without a list, the names of all patches of the branch
 abbrev pub listed : List Catch → Option (List (List ℕ)) → List (List ℕ)
 listed theirs None = names_of theirs
 listed theirs (Some names) = names
@@ -149,19 +148,19 @@ is_empty (name ∷ names) = false
 abbrev pub catches_named : List (List ℕ) → List Catch → List Catch
 catches_named names catches = filter (λ k. is_among names (name_of k)) catches
 
--- a branch would exceed this limit of catches with those of these patches of another branch
+-- a branch would exceed this limit of catches if it got the catches of another branch that have these names
 abbrev pub is_full_with : ℕ → List Catch → List Catch → List (List ℕ) → Bool
 is_full_with most ours theirs names = nat_lt most (length ours + length (catches_named names theirs))
 
--- the decision on a pull of these names into a branch; the limit of catches is not exceeded
+-- the decision on a pull of these names into a branch, which refuses what would exceed the limit of catches
 abbrev pub pull_wanted : Contents → List ℕ → List Catch → List Catch → List (List ℕ) → Decision
 pull_wanted state to theirs ours names =
     refused_if (is_empty names) NothingToDo (
     refused_if (is_full_with state.limits.catches ours theirs names) TooLarge (
     becomes state to (pulled theirs ours names)))
 
--- the decision on a pull from one branch into another: of the listed patches that it lacks or, without a list, of all
--- that it lacks
+-- the decision on a pull from one branch into another, of the patches that the other lacks: those that are listed or,
+-- without a list, all
 abbrev pub step_pull : Contents → List ℕ → List ℕ → Option (List (List ℕ)) → Decision
 step_pull state from to names =
     with_branch state from (λ theirs.

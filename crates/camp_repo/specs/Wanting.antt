@@ -13,7 +13,7 @@ use Rattle.camp_repo.specs.Steps.{is_empty, is_too_large, listed}
 abbrev pub HasBranch : Contents → List ℕ → (List Catch → Type 0) → Type 0
 HasBranch state name P = IsSomeAnd (catches_of state.branches name) P
 
--- a branch with these catches has all these patches
+-- a branch with these catches has the patches of all these names
 abbrev pub HasEachPatch : List (List ℕ) → List Catch → Type 0
 HasEachPatch names catches = first_lacked catches names ≡ None
 

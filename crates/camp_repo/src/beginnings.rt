@@ -12,7 +12,7 @@ use std::marker::Model;
 /// The most pairs of branches for which a state stores the length of a common prefix.
 const MAX_PAIRS: usize = 64;
 
-/// Two branches, by their indexes in the order of creation, and a length for which their prefixes agree.
+/// Two branches, by their indexes in the order of creation, and a length at which their prefixes agree.
 #[derive(Clone, Copy, Debug, PartialEq, Eq)]
 pub(crate) struct KnownBeginning {
     pub(crate) from: usize,
@@ -26,7 +26,7 @@ impl Share for KnownBeginning {
     }
 }
 
-/// Pairs of branches, each with a length for which their prefixes agree. At most `MAX_PAIRS` pairs: one more drops the
+/// Pairs of branches, each with a length at which their prefixes agree. At most `MAX_PAIRS` pairs: one more drops the
 /// oldest. Updating the length of a pair does not make it newer.
 #[derive(Drop)]
 pub(crate) struct KnownBeginnings {
@@ -52,7 +52,7 @@ impl KnownBeginnings {
         }
     }
 
-    /// Returns a length for which the prefixes of two branches agree; 0 if none is stored.
+    /// Returns a length at which the prefixes of two branches agree; 0 if none is stored.
     pub(crate) fn between(&self, from: usize, to: usize) -> usize
         ensures { (branches : List (List Catch)) → AllByRecursion (AgreesIn branches) self.now
             → (theirs ours : List Catch) → slice_get branches from ≡ Some theirs → slice_get branches to ≡ Some ours
@@ -80,8 +80,8 @@ impl KnownBeginnings {
         Ok(KnownBeginnings { beginnings })
     }
 
-    /// Returns the list with the pairs of a new branch added, which is a copy of branch `of`: the copy agrees with `of`
-    /// for the length `long`, and with any other branch as far as `of` does. Beyond the limit the oldest pairs are
+    /// Returns the list with pairs added for a new branch, a copy of branch `of`: the copy agrees with `of` at the
+    /// length `long`, and with any other branch at the same length as `of`. Beyond the limit the oldest pairs are
     /// dropped.
     pub(crate) fn copied(
         &self,
@@ -137,7 +137,8 @@ fn with_beginning(
     others.pushed(beginning)
 }
 
-/// Returns the list and, after it, each pair of branch `of` once more with `of` replaced by its copy, up to the limit.
+/// Returns the list with a pair appended for each pair that contains branch `of`: the same pair with the branch's copy
+/// in place of `of`. Appends none beyond the limit.
 fn with_pairs_of_copy(
     known: &SharedList<KnownBeginning>,
     of: usize,

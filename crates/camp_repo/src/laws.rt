@@ -44,8 +44,8 @@ pub fn calls_keep_limits()
     ensures histories { HistoriesKeepLimits }
 {}
 
-/// A call that passes the tests before those of the limits is refused as too large exactly if a branch would
-/// have more catches, or the repository more branches, than its limits allow.
+/// A call that passes all earlier tests is refused as too large exactly if a branch would have more catches, or the
+/// repository more branches, than its limits allow.
 #[tactic(auto, using(crate::proofs::LimitSteps::states_hold))]
 pub fn states_hold_their_limits()
     ensures law { StatesHoldTheirLimits }

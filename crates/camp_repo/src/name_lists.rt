@@ -32,7 +32,7 @@ pub(crate) fn lists_none(names: &Option<Names>) -> bool
 }
 
 /// Returns the listed names, or all names of `theirs` if there is no list, without those of which `ours` has a patch.
-/// `long` is a length for which the prefixes of the two agree.
+/// `long` is a length at which the prefixes of the two agree.
 pub(crate) fn wanted(
     ours: &Branch,
     theirs: &Branch,
@@ -80,8 +80,8 @@ fn wanted_of(branch: &Branch, names: &[Name]) -> Result<NameSet, AllocError>
     Ok(set_of(alloc, &lacked)?)
 }
 
-/// True if `ours` would be too long with those catches of `theirs` that have these names. `ours` has none of the names,
-/// and the prefixes of length `long` agree, so only the catches after them are counted.
+/// True if `ours` would exceed the limit of catches if it got the catches of `theirs` that have these names. `ours` has
+/// none of the names, and the prefixes of length `long` agree, so only the catches after them are counted.
 pub(crate) fn is_full_with(
     limits: Limits,
     ours: &Branch,

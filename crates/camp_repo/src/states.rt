@@ -159,7 +159,7 @@ impl State {
         Some((place, branch))
     }
 
-    /// Returns a length for which the prefixes of two branches, given by their indexes, agree.
+    /// Returns a length at which the prefixes of two branches, given by their indexes, agree.
     pub(crate) fn agreed(&self, from: usize, to: usize) -> usize
         ensures { (theirs ours : List Catch) → slice_get (catches_in self.now.branches) from ≡ Some theirs
             → slice_get (catches_in self.now.branches) to ≡ Some ours → Agree theirs ours result }
@@ -181,8 +181,8 @@ impl State {
         self.with_branch_at(place, branch, known)
     }
 
-    /// Returns the same after a pull from the branch at another index; stores the length for which the prefixes of the
-    /// two agreed.
+    /// Returns the state as `with_grown` does, after a pull from the branch at index `from`; stores the length at which
+    /// the prefixes of the two branches agreed.
     pub(crate) fn with_pulled(
         &self,
         from: usize,

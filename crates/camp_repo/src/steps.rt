@@ -114,7 +114,7 @@ impl State {
             return Ok(refused(Refusal::TooLarge));
         }
         let agreed = ours.agreed(theirs, known)?;
-        match ours.pulled_behind(theirs, &wanted, agreed) {
+        match ours.pulled_after_prefix(theirs, &wanted, agreed) {
             Ok(pulled) => {
                 let next = self.with_pulled(other, place, pulled, agreed)?;
                 Ok(Decided::Next(next))

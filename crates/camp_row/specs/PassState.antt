@@ -19,8 +19,8 @@ pub record RowId : Type 0 where
   pub seats : ℕ
   pub per_seat : ℕ
 
--- what a pass knows: its row and its seat's number, the entries that it has seen, the chain that it last found,
--- and the two words of its seat's next cell
+-- what a pass knows: its row and its seat's number, the entries that it has seen (read one by one), the chain that it
+-- last found (as it was when the pass last read its end), and the two words of its seat's next cell
 pub record PassState : Type 0 where
   pub row : RowId
   pub number : ℕ
@@ -39,8 +39,8 @@ pub record IsSound (known : PassState) : Type 0 where
   pub prefix : IsPrefix known.seen known.ahead
   pub own_seen : own_entries known.number known.ahead ≡ own_entries known.number known.seen
 
--- the pass finds the chain as it is now: it has only grown, begins with what the pass has seen, and has no new entry of
--- the pass's seat
+-- the pass finds the chain as it is now: the chain has only grown, begins with what the pass has seen, and has no new
+-- entry of the pass's seat
 pub record FindsChain (old new : PassState) : Type 0 where
   pub is : new ≡ record old { ahead = new.ahead }
   pub grows : IsPrefix old.ahead new.ahead
@@ -99,7 +99,7 @@ pub record Won (old new : PassState) : Type 0 where
   pub whole : old.ahead ≡ old.seen
   pub is : new ≡ won old
 
--- a compare-exchange that failed: the chain was longer than what the pass has seen, and the pass has now found it
+-- a compare-exchange that failed: the chain was longer than what the pass has seen; the pass has now found that chain
 pub record Lost (old new : PassState) : Type 0 where
   pub is : new ≡ record old { ahead = new.ahead }
   pub grows : IsPrefix old.ahead new.ahead

@@ -4,6 +4,6 @@
 pub struct Entry {
     /// The seat that published it.
     pub seat: u32,
-    /// The number that the seat gave it.
+    /// The number that the seat gave the cell, such as the index of a call in a store.
     pub index: usize,
 }

@@ -14,7 +14,7 @@ impl Model for Knowledge {
     ghost also_owns = { λ _. ftrue };
 }
 
-/// The number of seats of a row, and of cells of each seat.
+/// The number of seats of a row, and the number of cells of each seat.
 #[derive(Clone, Copy)]
 pub struct Sizes {
     pub seats: u32,

@@ -34,7 +34,7 @@ impl Model for Row {
     ghost invariant = { IsRow };
 }
 
-// A row has at most 64 * 65,536 cells.
+// Returns the index of the word that names the parent of a cell. A row has at most 64 * 65,536 cells.
 fn parent_word(cell: usize) -> usize
     requires { cell < 4194304 }
     ensures { result ≡ parent_word cell }
@@ -113,7 +113,7 @@ impl Row {
         self.per_seat
     }
 
-    /// Loads the head word: the pass has then found the chain as it is now.
+    /// Loads the head word, by which the pass finds the chain as it is now.
     pub fn find_chain(&self, pass: &mut Pass)
         requires { pass.old.row ≡ self.now }
         ensures finds { FindsChain pass.old pass.new }
@@ -121,8 +121,8 @@ impl Row {
         pass.head = self.table.shared.load::<LoadHead>(&mut pass.seat, 0);
     }
 
-    /// Walks back from the end of the chain that the pass found to what it has seen. Allocates for each cell on the
-    /// way.
+    /// Walks back from the end of the chain that the pass found to what it has seen, and returns the cells on the way.
+    /// Allocates for each of them.
     pub fn walk(&self, alloc: Global, pass: &mut Pass) -> Result<Trail, AllocError>
         requires { pass.old.row ≡ self.now }
         ensures same { pass.new ≡ pass.old }
@@ -233,7 +233,7 @@ impl Row {
     }
 
     /// Publishes the drafted cell as the last of the chain by one compare-exchange. True if it succeeded, which it does
-    /// exactly if the chain is what the pass has seen; else the pass has found the longer chain.
+    /// exactly if the pass has seen the whole chain; else the pass has now found the longer chain.
     pub fn publish(&self, pass: &mut Pass) -> bool
         requires row { pass.old.row ≡ self.now }
         requires room { entry_count pass.old.number pass.old.seen < self.now.per_seat }
@@ -253,7 +253,8 @@ impl Row {
         true
     }
 
-    /// Synchronises two passes: both have found the same chain, which begins with what either has seen.
+    /// Synchronises two passes: afterwards both have found the same chain, which begins with what each of them has
+    /// seen.
     pub fn synchronise(&self, a: &mut Pass, b: Pass) -> Pass
         requires { (a.old.row ≡ self.now) × (b.row ≡ self.now) }
         ensures a { FindsChain a.old a.new }

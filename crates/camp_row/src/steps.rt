@@ -22,14 +22,14 @@ impl Play<(), Knowledge> for LoadHead {
     ghost then = { λ step old found new. (new.1 ≡ old.1) × LoadedHead found old.0.parts new.0.parts };
 }
 
-/// A load of a parent word or an index word after which no more entries are seen.
+/// A load of a parent word, or of an index word, that adds no entry to what the seat has seen.
 pub struct Walk;
 
 impl Play<(), Knowledge> for Walk {
     ghost then = { λ step old found new. (new.1 ≡ old.1) × Walked step.word found old.0.parts new.0.parts };
 }
 
-/// A load of an index word after which one more entry is seen.
+/// A load of an index word that adds one entry to what the seat has seen.
 pub struct Advance;
 
 impl Play<(), Knowledge> for Advance {
@@ -57,7 +57,7 @@ impl Play<(), Knowledge> for Publish {
     ghost then = { λ step old found new. (new.1 ≡ old.1) × Tried step.first found old.0.parts new.0.parts };
 }
 
-/// A split of one seat's view from a view.
+/// A split of a view of several seats: one seat gets a view of its own.
 pub struct SplitSeat;
 
 impl Split<Knowledge> for SplitSeat {

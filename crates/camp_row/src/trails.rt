@@ -4,7 +4,8 @@ ghost use Rattle.std.specs.Prelude.{◌≡◌, length};
 use crate::entries::Entry;
 use std::marker::Model;
 
-/// The cells of the chain that a pass last found and has not seen. Contracts see their numbers, the oldest last.
+/// The cells of the chain that a pass last found and has not seen. Contracts see the numbers of these cells, from the
+/// newest to the oldest.
 #[derive(Drop)]
 pub struct Trail {
     pub(crate) cells: Vec<usize>,

@@ -14,7 +14,7 @@ use Rattle.camp_repo.specs.States.{Contents, new_within}
 use Rattle.camp_repo.specs.Steps.{Decision, step}
 use Rattle.camp_run.specs.StoredTexts.{KeptLeadsBack, SeatZeroIsPreserved, moved_to_seat_0, dones}
 use Rattle.camp_script.specs.Canonical.{IsScriptCall, CanBeWritten}
-use Rattle.camp_script.specs.Keeping.{CanStand, ListsNames, calls_of}
+use Rattle.camp_script.specs.Keeping.{CanBeInScript, ListsNames, calls_of}
 use Rattle.camp_script.proofs.CanonicalCalls.{reads_back}
 
 module _ (limits : Bounds) where
@@ -62,7 +62,7 @@ module _ (limits : Bounds) where
   retraces (entry ∷ history) state end leads =
       retraced state end entry history (step state entry.1) refl leads (λ next further. retraces history next end further)
 
-  can_stand : (calls : List Call) → AllByRecursion CanStand calls → AllByRecursion ListsNames calls
+  can_stand : (calls : List Call) → AllByRecursion CanBeInScript calls → AllByRecursion ListsNames calls
       → AllByRecursion IsScriptCall calls
   can_stand [] stand lists = tt
   can_stand (given ∷ calls) stand lists = (stand.0 lists.0, can_stand calls stand.1 lists.1)

@@ -3,7 +3,7 @@ use Rattle.std.proofs.Common.{◌≡◌, ℕ, ◌≤◌, Bool, List, [], ◌∷�
 use Rattle.camp_run.proofs.Words.{ap, count_by, subst, sym, ◌∙◌, All, AllByRecursion, All-cons, All-nil, Fault, is_writing, Call, Reply, lists_of}
 use Rattle.std.specs.Io.KnownBytes.{Appends}
 use Rattle.camp_script.specs.Outputs.{output_text}
-use Rattle.camp_script.specs.Writing.{AppendsBeginning}
+use Rattle.camp_script.specs.Writing.{AppendsProperPrefix}
 use Rattle.camp_run.specs.Inputs.{ReadsAs}
 use Rattle.camp_run.specs.Outputs.{IsOutput, RunRelation, if_wanted}
 use Rattle.camp_run.specs.Runs.{Runs}
@@ -12,12 +12,12 @@ use Rattle.camp_run.specs.declared.faults.RunFault.TheVariants.{Write}
 
 module _ (Relates : RunRelation) (wants_history : Bool) (remaining rest old new : Option (List ℕ)) (script : List (List Call)) (text lent : List ℕ) where
   pub written : (result : Result (Unit {0}) RunFault) → ReadsAs remaining rest (Ok script) → IsOutput Relates wants_history script text → lent ≡ text
-      → MatchResult result (λ _. Appends old new lent) (λ why. (why ≡ Write) × AppendsBeginning old new lent)
+      → MatchResult result (λ _. Appends old new lent) (λ why. (why ≡ Write) × AppendsProperPrefix old new lent)
       → Runs Relates wants_history remaining rest old result new
   written (Ok done) reads is same says = (text, record { script = script; reads = reads; is_output = is }, subst (Appends old new) same says)
   written (Err why) reads is same says =
       subst (λ fault. Runs Relates wants_history remaining rest old (Err fault) new) (sym says.0)
-      (text, record { script = script; reads = reads; is_output = is }, subst (AppendsBeginning old new) same says.1)
+      (text, record { script = script; reads = reads; is_output = is }, subst (AppendsProperPrefix old new) same says.1)
 
 -- the result of a script, and its text
 module _ (Relates : RunRelation) (wants_history : Bool) (script sections : List (List Call))

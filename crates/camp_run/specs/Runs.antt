@@ -2,7 +2,7 @@
 use Rattle.std.specs.Prelude.{ℕ, Bool, List, Option, Result, Ok, Err}
 use Rattle.std.specs.Io.KnownBytes.{Appends, Keeps}
 use Rattle.camp_call.specs.declared.calls.Call.{Call}
-use Rattle.camp_script.specs.Writing.{AppendsBeginning}
+use Rattle.camp_script.specs.Writing.{AppendsProperPrefix}
 use Rattle.camp_run.specs.Inputs.{ReadsAs}
 use Rattle.camp_run.specs.Outputs.{RunRelation, IsOutput}
 use Rattle.camp_run.specs.declared.faults.RunFault.{RunFault}
@@ -28,7 +28,7 @@ Runs Relates wants_history remaining rest old (Err Foreign) new = Keeps old new
 Runs Relates wants_history remaining rest old (Err Memory) new = Keeps old new
 Runs Relates wants_history remaining rest old (Err Read) new = Keeps old new
 Runs Relates wants_history remaining rest old (Err Write) new =
-    (text : List ℕ) × HasOutput Relates wants_history remaining rest text × AppendsBeginning old new text
+    (text : List ℕ) × HasOutput Relates wants_history remaining rest text × AppendsProperPrefix old new text
 
 -- why there is no text to write: the first fault of the script, a foreign call, out of memory or an error of the reader
 abbrev pub HasNoOutput : Option (List ℕ) → Option (List ℕ) → RunFault → Type 0

@@ -14,7 +14,7 @@ abbrev pub replies_from : Contents → List (List Call) → List (List Reply)
 replies_from state [] = []
 replies_from state (calls ∷ sections) = replies_to state calls ∷ replies_from (state_after state calls) sections
 
--- the calls accepted after a given one, with that call before them if it is accepted itself
+-- accepted calls, with a further call before them if the decision accepts it
 abbrev pub booked : Decision → ℕ × Call → List (ℕ × Call) → List (ℕ × Call)
 booked (Next state) entry rest = entry ∷ rest
 booked (Answer answer) entry rest = rest

@@ -10,7 +10,7 @@ use Rattle.camp_repo.specs.Limits.{Bounds}
 use Rattle.camp_repo.specs.Objects.{repository_within}
 use Rattle.camp_repo.specs.States.{Contents}
 use Rattle.camp_run.specs.Serial.{IsSerial}
-use Rattle.camp_script.specs.Keeping.{CanStand, calls_of, kept_text}
+use Rattle.camp_script.specs.Keeping.{CanBeInScript, calls_of, kept_text}
 use Rattle.camp_script.specs.Sections.{most_writing_calls}
 use Rattle.camp_script.specs.Reading.{script_of}
 
@@ -30,10 +30,10 @@ pub record LeadsBack (limits : Bounds) (history : List (ℕ × Call)) (state : C
   pub is_serial : IsSerial limits (calls_of history ∷ []) (dones 1 (calls_of history) ∷ []) (moved_to_seat_0 history)
   pub leads : replay (repository_within limits) (moved_to_seat_0 history) ≡ Some state
 
--- the same for each legal history of at most 65,536 calls that scripts can contain
+-- each legal history of at most 65,536 calls that scripts can contain leads back by its text
 abbrev pub KeptLeadsBack : Type 0
 KeptLeadsBack = (limits : Bounds) (history : List (ℕ × Call)) (state : Contents) → replay (repository_within limits) history ≡ Some state
-    → AllByRecursion CanStand (calls_of history) → length history ≤ most_writing_calls → LeadsBack limits history state
+    → AllByRecursion CanBeInScript (calls_of history) → length history ≤ most_writing_calls → LeadsBack limits history state
 
 -- the text of a history is a script, and a new repository with these limits that is asked its calls has exactly this
 -- history
@@ -41,8 +41,8 @@ pub record ReadsBackExactly (limits : Bounds) (history : List (ℕ × Call)) : T
   pub reads : script_of (kept_text history) ≡ Ok (calls_of history ∷ [])
   pub is_serial : IsSerial limits (calls_of history ∷ []) (dones 1 (calls_of history) ∷ []) history
 
--- the same for each such history whose calls are all at seat 0
+-- the text of each legal history of at most 65,536 calls that scripts can contain, all at seat 0, reads back exactly
 abbrev pub SeatZeroIsPreserved : Type 0
 SeatZeroIsPreserved = (limits : Bounds) (history : List (ℕ × Call)) (state : Contents) → replay (repository_within limits) history ≡ Some state
-    → AllByRecursion CanStand (calls_of history) → length history ≤ most_writing_calls
+    → AllByRecursion CanBeInScript (calls_of history) → length history ≤ most_writing_calls
     → AllByRecursion (λ entry. entry.0 ≡ 0) history → ReadsBackExactly limits history

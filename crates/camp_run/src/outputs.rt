@@ -3,7 +3,7 @@ ghost use Rattle.std.specs.Prelude.{◌≡◌, IfOk, MatchResult};
 ghost use Rattle.std.specs.Io.KnownBytes.{Appends};
 ghost use Rattle.camp_clients.specs.Runs.{lists_of};
 ghost use Rattle.camp_script.specs.Outputs.{HaveTexts, output_text};
-ghost use Rattle.camp_script.specs.Writing.{AppendsBeginning};
+ghost use Rattle.camp_script.specs.Writing.{AppendsProperPrefix};
 ghost use Rattle.camp_run.specs.Outputs.{if_wanted};
 ghost use Rattle.camp_run.specs.declared.faults.RunFault.TheVariants as fault;
 
@@ -33,7 +33,7 @@ pub(crate) fn text_of(
 pub(crate) fn write_output<W: Write>(writer: &mut W, text: &[u8]) -> Result<(), RunFault>
     ensures { MatchResult result
         (λ _. Appends (W.contents writer.old) (W.contents writer.new) text.now)
-        (λ why. (why ≡ fault.Write) × AppendsBeginning (W.contents writer.old) (W.contents writer.new) text.now) }
+        (λ why. (why ≡ fault.Write) × AppendsProperPrefix (W.contents writer.old) (W.contents writer.new) text.now) }
 {
     match write_text(writer, text) {
         Ok(()) => Ok(()),

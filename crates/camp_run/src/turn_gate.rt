@@ -14,7 +14,8 @@ const PAUSE: u64 = 100;
 /// The number of positions in the queue for which clients sleep longer than those before them; all after them sleep as
 /// long as the last of these.
 const POSITIONS: u64 = 8;
-/// Polls that find the same owner of the turn after which a client sleeps four times as long, until the owner changes.
+/// The number of polls that find the same owner of the turn, after which a client sleeps four times as long until the
+/// owner changes.
 const POLLS_BEFORE_LONG_PAUSE: u32 = 4;
 /// Polls after which a client stops waiting.
 const MOST_POLLS: u32 = 1_000;

@@ -1,5 +1,5 @@
 -- A reader gives the script of the definitions.
-use Rattle.camp_script.proofs.Common.{◌≡◌, ℕ, ◌+◌, Bool, true, false, not, ◌&&◌, ◌||◌, ◌==◌, nat_le, cond, List, [], ◌∷◌, ◌++◌, length, codes, refl, sym, ap, ◌∙◌, Option, None, Some, Result, Ok, Err, arith, length-append, cond-false, nat_tests, Edit, Primitive, Hunk, is_writing, Call, Command, Nothing, Ask, BeginEdit, BeginGroup, BeginSection, command_of, words_of, OpenEdit, OpenRecord, Progress, start, after_change, after_command, after_group_line, read_from, LineFault, bytes_eq, if◌then◌else◌, GroupLine, NoChange, WholeChange, EditChange, EndGroup, group_line_of, grown, ended_edit, parsed_edit, group_of, after_body_line, after_entry, with_change, ◌>>=◌, in_turn, NumberedLine, Entry, Item, numbered, up_to, pieces, begins_with, begins_edit, begins_group, words_on, ends_body, line_entries, entry_words, ends_group, items_of, first_section, clients_of, is_full, with_asked, after_item, after_client, script_of_lines}
+use Rattle.camp_script.proofs.Common.{◌≡◌, ℕ, ◌+◌, Bool, true, false, not, ◌&&◌, ◌||◌, ◌==◌, nat_le, cond, List, [], ◌∷◌, ◌++◌, length, codes, refl, sym, ap, ◌∙◌, Option, None, Some, Result, Ok, Err, arith, length-append, cond-false, nat_tests, Edit, Primitive, Hunk, is_writing, Call, Command, Nothing, Ask, BeginEdit, BeginGroup, BeginSection, command_of, words_of, OpenEdit, OpenRecord, Progress, start, after_change, after_command, after_group_line, read_from, LineFault, bytes_eq, if◌then◌else◌, GroupLine, NoChange, WholeChange, EditChange, EndGroup, group_line_of, grown, ended_edit, parsed_edit, group_of, after_body_line, after_entry, with_change, ◌>>=◌, fold_results, NumberedLine, Entry, Item, numbered, up_to, pieces, begins_with, begins_edit, begins_group, words_on, ends_body, line_entries, entry_words, ends_group, items_of, first_section, clients_of, is_full, with_command, after_item, after_client, script_of_lines}
 use Rattle.std.specs.List.{list_any}
 use Rattle.camp_call.specs.declared.calls.Call.TheVariants as call
 use Rattle.camp_script.specs.Faults.{fault_at}
@@ -25,18 +25,18 @@ inside closed calls branch name opened grouped changes edit = record {
 -- the rest of a script: items of this section, followed by those of clients
 abbrev rest_of_script : List (List Call) → List Call → List Item → Result (List (List Call)) LineFault
 rest_of_script closed calls items =
-    in_turn after_item calls (first_section items) >>= λ calls. in_turn after_client (closed ++ calls ∷ []) (clients_of items)
+    fold_results after_item calls (first_section items) >>= λ calls. fold_results after_client (closed ++ calls ∷ []) (clients_of items)
 
 -- the changes of the rest of a group
 abbrev rest_of_group : ℕ → List Primitive → List Entry → Result (List Primitive) LineFault
 rest_of_group opened changes entries =
-    in_turn after_entry changes entries >>= λ changes.
+    fold_results after_entry changes entries >>= λ changes.
     if list_any ends_group entries then Ok changes else fault_at opened GroupNotEnded
 
 -- the change of the rest of a body
 abbrev rest_of_body : ℕ → Edit → List NumberedLine → Result Primitive LineFault
 rest_of_body begun edit body =
-    in_turn after_body_line edit body >>= λ edit.
+    fold_results after_body_line edit body >>= λ edit.
     if list_any ends_body body then Ok (Hunk edit) else fault_at begun EditNotEnded
 
 -- the items of entries, of which the first ones are in a group or not
@@ -100,7 +100,7 @@ module _ (n : ℕ) (bytes : List ℕ) (lines : List (List ℕ)) (next : Agrees (
   -- after another line
   body_grows : (grouped : Bool) (changes : List Primitive) (begun : ℕ) (r : Result Edit LineFault)
       → ((r >>= λ edit. Ok (inside closed calls branch name opened grouped changes (Some (record { opened = begun; edit = edit })))) >>= λ p. read_from (n + 1) p lines)
-      ≡ (((r >>= λ edit. in_turn after_body_line edit (up_to ends_body (numbered (n + 1) lines))) >>= λ edit. cond (list_any ends_body (up_to ends_body (numbered (n + 1) lines))) (Ok (Hunk edit)) (fault_at begun EditNotEnded))
+      ≡ (((r >>= λ edit. fold_results after_body_line edit (up_to ends_body (numbered (n + 1) lines))) >>= λ edit. cond (list_any ends_body (up_to ends_body (numbered (n + 1) lines))) (Ok (Hunk edit)) (fault_at begun EditNotEnded))
       >>= λ change. behind_body closed calls branch name opened grouped (changes ++ change ∷ []) (entries_from true (numbered (n + 1) lines)))
   body_grows grouped changes begun (Err fault) = refl
   body_grows grouped changes begun (Ok edit) = next.in_body closed calls branch name opened grouped changes begun edit
@@ -113,7 +113,7 @@ module _ (n : ℕ) (bytes : List ℕ) (lines : List (List ℕ)) (next : Agrees (
       (λ b. ((cond b
       ((ended_edit n edit >>= λ edit. after_change n (inside closed calls branch name opened grouped changes (Some (record { opened = begun; edit = edit }))) (record { branch = branch; name = name; opened = opened; grouped = grouped; changes = changes; open_edit = Some (record { opened = begun; edit = edit }) }) (Hunk edit)))
       (grown n edit bytes >>= λ edit. Ok (inside closed calls branch name opened grouped changes (Some (record { opened = begun; edit = edit }))))) >>= λ p. read_from (n + 1) p lines)
-      ≡ (((cond b (ended_edit n edit) (grown n edit bytes) >>= λ edit. in_turn after_body_line edit (cond b [] (up_to ends_body (numbered (n + 1) lines))))
+      ≡ (((cond b (ended_edit n edit) (grown n edit bytes) >>= λ edit. fold_results after_body_line edit (cond b [] (up_to ends_body (numbered (n + 1) lines))))
       >>= λ edit. cond (b || list_any ends_body (cond b [] (up_to ends_body (numbered (n + 1) lines)))) (Ok (Hunk edit)) (fault_at begun EditNotEnded))
       >>= λ change. behind_body closed calls branch name opened grouped (changes ++ change ∷ []) (entries_from (not b) (numbered (n + 1) lines)))) [
         | true ↦ body_ends grouped changes begun edit (ended_edit n edit)
@@ -129,7 +129,7 @@ module _ (n : ℕ) (bytes : List ℕ) (lines : List (List ℕ)) (next : Agrees (
   -- the rest of the group, if its first line has this meaning, begins an edit or not, and ends the group or not
   abbrev group_where : Bool → Bool → Result GroupLine LineFault → Result (List (List Call)) LineFault
   group_where edits ends said =
-      (((said >>= with_change changes (entry edits)) >>= λ changes. in_turn after_entry changes (cond ends [] (up_to ends_group (entries_from edits (numbered (n + 1) lines)))))
+      (((said >>= with_change changes (entry edits)) >>= λ changes. fold_results after_entry changes (cond ends [] (up_to ends_group (entries_from edits (numbered (n + 1) lines)))))
       >>= λ changes. cond (ends || list_any ends_group (cond ends [] (up_to ends_group (entries_from edits (numbered (n + 1) lines))))) (Ok changes) (fault_at opened GroupNotEnded))
       >>= λ changes. rest_of_script closed (calls ++ call.Record branch name changes ∷ []) (items_from (not ends) (entries_from edits (numbered (n + 1) lines)))
 
@@ -180,15 +180,15 @@ module _ (n : ℕ) (bytes : List ℕ) (lines : List (List ℕ)) (next : Agrees (
   -- the rest of the script, if its first line has this meaning in its section, and begins an edit or a group or not
   abbrev section_where : Bool → Bool → Result Command LineFault → Result (List (List Call)) LineFault
   section_where edits groups asked =
-      ((asked >>= with_asked calls (item edits groups)) >>= λ calls. in_turn after_item calls (first_section (items_from groups (behind_line edits))))
-      >>= λ calls. in_turn after_client (closed ++ calls ∷ []) (clients_of (items_from groups (behind_line edits)))
+      ((asked >>= with_command calls (item edits groups)) >>= λ calls. fold_results after_item calls (first_section (items_from groups (behind_line edits))))
+      >>= λ calls. fold_results after_client (closed ++ calls ∷ []) (clients_of (items_from groups (behind_line edits)))
 
   -- the same if the line is one of a client
   abbrev client_where : Bool → Bool → Result Command LineFault → Result (List (List Call)) LineFault
   client_where edits groups asked =
       (asked >>= λ begins. cond (nat_le 64 (length (closed ++ calls ∷ []))) (fault_at n TooManyClients)
-      (in_turn after_item [] (first_section (items_from groups (behind_line edits))) >>= λ new. Ok ((closed ++ calls ∷ []) ++ new ∷ [])))
-      >>= λ sections. in_turn after_client sections (clients_of (items_from groups (behind_line edits)))
+      (fold_results after_item [] (first_section (items_from groups (behind_line edits))) >>= λ new. Ok ((closed ++ calls ∷ []) ++ new ∷ [])))
+      >>= λ sections. fold_results after_client sections (clients_of (items_from groups (behind_line edits)))
 
   abbrev script_where : Bool → Bool → Bool → Result Command LineFault → Result (List (List Call)) LineFault
   script_where edits groups begins asked = cond begins (client_where edits groups asked) (section_where edits groups asked)
@@ -196,8 +196,8 @@ module _ (n : ℕ) (bytes : List ℕ) (lines : List (List ℕ)) (next : Agrees (
   -- a line of a client begins a section, and any other is one of its section
   either_way : (begins edits groups : Bool)
       → script_where edits groups begins (command_of n (words_of bytes))
-      ≡ (in_turn after_item calls (cond begins [] (item edits groups ∷ first_section (items_from groups (behind_line edits))))
-      >>= λ calls. in_turn after_client (closed ++ calls ∷ []) (cond begins (record { head = item edits groups; rest = first_section (items_from groups (behind_line edits)) } ∷ clients_of (items_from groups (behind_line edits))) (clients_of (items_from groups (behind_line edits)))))
+      ≡ (fold_results after_item calls (cond begins [] (item edits groups ∷ first_section (items_from groups (behind_line edits))))
+      >>= λ calls. fold_results after_client (closed ++ calls ∷ []) (cond begins (record { head = item edits groups; rest = first_section (items_from groups (behind_line edits)) } ∷ clients_of (items_from groups (behind_line edits))) (clients_of (items_from groups (behind_line edits)))))
   either_way true edits groups = refl
   either_way false edits groups = refl
 
@@ -206,8 +206,8 @@ module _ (n : ℕ) (bytes : List ℕ) (lines : List (List ℕ)) (next : Agrees (
   script_asks (Ask new) =
       elim (is_writing new && is_full calls) as
       (λ b. (cond b (fault_at n TooManyCommands) (Ok (outside closed (calls ++ new ∷ []))) >>= λ p. read_from (n + 1) p lines)
-      ≡ ((cond b (fault_at n TooManyCommands) (Ok (calls ++ new ∷ [])) >>= λ calls. in_turn after_item calls (first_section (items_of (behind_line false))))
-      >>= λ calls. in_turn after_client (closed ++ calls ∷ []) (clients_of (items_of (behind_line false))))) [
+      ≡ ((cond b (fault_at n TooManyCommands) (Ok (calls ++ new ∷ [])) >>= λ calls. fold_results after_item calls (first_section (items_of (behind_line false))))
+      >>= λ calls. fold_results after_client (closed ++ calls ∷ []) (clients_of (items_of (behind_line false))))) [
         | true ↦ refl
         | false ↦ next.beyond closed (calls ++ new ∷ [])
       ]
@@ -215,8 +215,8 @@ module _ (n : ℕ) (bytes : List ℕ) (lines : List (List ℕ)) (next : Agrees (
       elim (is_full calls) as
       (λ b. (cond b (fault_at n TooManyCommands) (Ok (inside closed calls branch name n false [] (Some (record { opened = n; edit = record { path = path; line = place; old = []; new = [] } })))) >>= λ p. read_from (n + 1) p lines)
       ≡ (((cond b (fault_at n TooManyCommands) (Ok tt) >>= λ room. parsed_edit n path place (up_to ends_body (numbered (n + 1) lines)) >>= λ change. Ok (calls ++ call.Record branch name (change ∷ []) ∷ []))
-      >>= λ calls. in_turn after_item calls (first_section (items_of (behind_line true))))
-      >>= λ calls. in_turn after_client (closed ++ calls ∷ []) (clients_of (items_of (behind_line true))))) [
+      >>= λ calls. fold_results after_item calls (first_section (items_of (behind_line true))))
+      >>= λ calls. fold_results after_client (closed ++ calls ∷ []) (clients_of (items_of (behind_line true))))) [
         | true ↦ refl
         | false ↦ next.in_body closed calls branch name n false [] n (record { path = path; line = place; old = []; new = [] })
             ∙ sym (behind_step (parsed_edit n path place (up_to ends_body (numbered (n + 1) lines))) (λ change. calls ++ call.Record branch name (change ∷ []) ∷ []) _ _)
@@ -225,8 +225,8 @@ module _ (n : ℕ) (bytes : List ℕ) (lines : List (List ℕ)) (next : Agrees (
       elim (is_full calls) as
       (λ b. (cond b (fault_at n TooManyCommands) (Ok (inside closed calls branch name n true [] None)) >>= λ p. read_from (n + 1) p lines)
       ≡ (((cond b (fault_at n TooManyCommands) (Ok tt) >>= λ room. group_of n (up_to ends_group (behind_line false)) >>= λ changes. Ok (calls ++ call.Record branch name changes ∷ []))
-      >>= λ calls. in_turn after_item calls (first_section (items_from true (behind_line false))))
-      >>= λ calls. in_turn after_client (closed ++ calls ∷ []) (clients_of (items_from true (behind_line false))))) [
+      >>= λ calls. fold_results after_item calls (first_section (items_from true (behind_line false))))
+      >>= λ calls. fold_results after_client (closed ++ calls ∷ []) (clients_of (items_from true (behind_line false))))) [
         | true ↦ refl
         | false ↦ next.in_group closed calls branch name n []
             ∙ sym (behind_step (group_of n (up_to ends_group (behind_line false))) (λ changes. calls ++ call.Record branch name changes ∷ []) _ _)
@@ -234,13 +234,13 @@ module _ (n : ℕ) (bytes : List ℕ) (lines : List (List ℕ)) (next : Agrees (
   script_asks BeginSection =
       elim (nat_le 63 (length closed)) as
       (λ b. (cond b (fault_at n TooManyClients) (Ok (outside (closed ++ calls ∷ []) [])) >>= λ p. read_from (n + 1) p lines)
-      ≡ (cond b (fault_at n TooManyClients) (in_turn after_item [] (first_section (items_of (behind_line false))) >>= λ new. Ok ((closed ++ calls ∷ []) ++ new ∷ []))
-      >>= λ sections. in_turn after_client sections (clients_of (items_of (behind_line false))))) [
+      ≡ (cond b (fault_at n TooManyClients) (fold_results after_item [] (first_section (items_of (behind_line false))) >>= λ new. Ok ((closed ++ calls ∷ []) ++ new ∷ []))
+      >>= λ sections. fold_results after_client sections (clients_of (items_of (behind_line false))))) [
         | true ↦ refl
-        | false ↦ next.beyond (closed ++ calls ∷ []) [] ∙ sym (twice (in_turn after_item [] (first_section (items_of (behind_line false)))) _ _)
+        | false ↦ next.beyond (closed ++ calls ∷ []) [] ∙ sym (twice (fold_results after_item [] (first_section (items_of (behind_line false)))) _ _)
       ]
-      ∙ ap (λ b. cond b (fault_at n TooManyClients) (in_turn after_item [] (first_section (items_of (behind_line false))) >>= λ new. Ok ((closed ++ calls ∷ []) ++ new ∷ []))
-      >>= λ sections. in_turn after_client sections (clients_of (items_of (behind_line false)))) (sym (as_many closed calls))
+      ∙ ap (λ b. cond b (fault_at n TooManyClients) (fold_results after_item [] (first_section (items_of (behind_line false))) >>= λ new. Ok ((closed ++ calls ∷ []) ++ new ∷ []))
+      >>= λ sections. fold_results after_client sections (clients_of (items_of (behind_line false)))) (sym (as_many closed calls))
 
   script_meets : (r : Result Command LineFault) → Holds (Fits (words_of bytes)) r
       → ((r >>= after_command n (outside closed calls)) >>= λ p. read_from (n + 1) p lines) ≡ script_where (begins_edit (words_of bytes)) (begins_group (words_of bytes)) (begins_with (codes "client") (words_of bytes)) r

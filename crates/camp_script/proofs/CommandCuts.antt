@@ -6,8 +6,8 @@ use Rattle.std.proofs.lemmas.Slice.Eq.{bytes_eq-Decides}
 use Rattle.camp_script.specs.CommandLines.{GivesScript, HasRead, entry_lines, taken, taken_by, wanted_after, wanted_lines, wants}
 use Rattle.camp_script.specs.Inside.Steps.{wanted_in}
 use Rattle.camp_script.specs.declared.command_lines.CommandLines.{CommandLines}
-use Rattle.camp_script.specs.declared.cuts.Wanted.{Wanted}
-use Rattle.camp_script.specs.declared.cuts.Wanted.TheVariants as want
+use Rattle.camp_script.specs.declared.grouping.Expected.{Expected}
+use Rattle.camp_script.specs.declared.grouping.Expected.TheVariants as want
 use Rattle.camp_script.proofs.Agreement.{entries_from, reads_as_defined}
 use Rattle.camp_script.proofs.ParsedLine.{Fits, fits, is_edit, is_group}
 use Rattle.camp_script.proofs.Holding.{Holds}
@@ -88,7 +88,7 @@ agree n (bytes ∷ lines) =
 -- ---- a first line
 
 -- what belongs to a command after a line with this meaning
-abbrev pub wanted_by : Result Command LineFault → Wanted
+abbrev pub wanted_by : Result Command LineFault → Expected
 wanted_by (Ok (BeginEdit branch name path place)) = want.Body
 wanted_by (Ok (BeginGroup branch name)) = want.Group
 wanted_by other = want.Nothing
@@ -103,7 +103,7 @@ pub takes_wanted : (first : List ℕ) (lines : List (List ℕ)) → taken first 
 takes_wanted first lines = taken_wanted (command_of 1 (words_of first)) lines
 
 -- the same by its words, if it has no fault
-abbrev pub wanted_words : List (List ℕ) → Wanted
+abbrev pub wanted_words : List (List ℕ) → Expected
 wanted_words words = cond (begins_edit words) want.Body (cond (begins_group words) want.Group want.Nothing)
 
 by_asked : (asked : Command) → wanted_by (Ok asked) ≡ cond (is_edit asked) want.Body (cond (is_group asked) want.Group want.Nothing)
@@ -124,13 +124,13 @@ first_takes_by_words first rest script is others =
     ∙ ap (λ w. wanted_lines w others) (by_words (words_of first) rest script (command_of 1 (words_of first)) (fits 1 (words_of first)) (reads_as_defined (first ∷ rest) ∙ is))
 
 -- at most one line is taken, if it is wanted
-pub one_wanted : (wanted : Wanted) → wants wanted ≡ true → (lines : List (List ℕ)) → length lines ≤ 1 → wanted_lines wanted lines ≡ lines
+pub one_wanted : (wanted : Expected) → wants wanted ≡ true → (lines : List (List ℕ)) → length lines ≤ 1 → wanted_lines wanted lines ≡ lines
 one_wanted wanted more [] few = refl
 one_wanted wanted more (line ∷ []) few = ap (λ b. cond b (line ∷ []) []) more
 one_wanted wanted more (line ∷ next ∷ lines) few = absurd (omega (arith, few))
 
 -- if none is wanted, none is taken
-pub none_wanted : (wanted : Wanted) → wants wanted ≡ false → (lines : List (List ℕ)) → wanted_lines wanted lines ≡ []
+pub none_wanted : (wanted : Expected) → wants wanted ≡ false → (lines : List (List ℕ)) → wanted_lines wanted lines ≡ []
 none_wanted wanted enough [] = refl
 none_wanted wanted enough (line ∷ lines) = ap (λ b. cond b (line ∷ wanted_lines (wanted_after wanted line) lines) []) enough
 
@@ -157,7 +157,7 @@ alone_by other fault is = refl
 
 -- a first line is read
 module _ (first : List ℕ) (others : List (List ℕ)) where
-  first_takes : (wanted : Wanted) → wanted ≡ wanted_by (command_of 1 (words_of first)) → taken first others ≡ wanted_lines wanted others
+  first_takes : (wanted : Expected) → wanted ≡ wanted_by (command_of 1 (words_of first)) → taken first others ≡ wanted_lines wanted others
   first_takes wanted is = takes_wanted first others ∙ ap (λ w. wanted_lines w others) (sym is)
 
   first_comes : (r : Result Progress LineFault) → after_line 1 None start first ≡ r → script_of_lines (first ∷ others) ≡ (r >>= λ next. read_from 2 next others)

@@ -27,14 +27,14 @@ pub use Rattle.camp_script.specs.HistoryTexts.{call_words, entries_text, entry_t
 pub use Rattle.camp_script.specs.Inside.Progress.{OpenEdit, OpenRecord, Progress, after_call, after_change, after_head, after_record, finished, not_ended, record_at, start, with_call, with_edit, with_one_more, with_open_edit, with_record}
 pub use Rattle.camp_script.specs.Inside.Spaces.{spaced}
 pub use Rattle.camp_script.specs.Inside.Steps.{HasMeaning, after_body, after_line, after_record_line, after_group_line, after_command, after_parsed_command, read_from}
-pub use Rattle.camp_script.specs.Keeping.{CanStand, calls_of, kept_text}
+pub use Rattle.camp_script.specs.Keeping.{CanBeInScript, calls_of, kept_text}
 pub use Rattle.camp_script.specs.Lines.{is_blank, is_skipped, lines_of, without_empty_last, without_end, words_of}
 pub use Rattle.camp_script.specs.Outputs.{HaveTexts, answers_text, client_answers, clients_answers}
 pub use Rattle.camp_script.specs.Pieces.{Entry, Item, NumberedLine, begins_edit, begins_group, begins_with, clients_of, ends_body, ends_group, line_entries, entry_words, first_section, items_of, numbered, pieces, up_to, words_on}
-pub use Rattle.camp_script.specs.Reading.{after_client, after_item, is_full, script_of, script_of_lines, with_asked}
+pub use Rattle.camp_script.specs.Reading.{after_client, after_item, is_full, script_of, script_of_lines, with_command}
 pub use Rattle.camp_script.specs.Texts.{HasText, file_text, line_text, name_text, pair_text, signed_line, tree_text}
 pub use Rattle.camp_script.specs.Wanting.{ScriptMayWant, first_command}
-pub use Rattle.camp_script.specs.Words.{in_turn, is_line_number, name_at, names_at, no_words, number_at, one_word, path_at, two_words, value_of}
+pub use Rattle.camp_script.specs.Words.{fold_results, is_line_number, name_at, names_at, no_words, number_at, one_word, path_at, two_words, value_of}
 pub use Rattle.camp_base.specs.Results.{◌>>=◌}
 pub use Rattle.camp_script.specs.declared.faults.LineFault.{LineFault}
 pub use Rattle.camp_script.specs.declared.faults.ScriptFault.{ScriptFault}

@@ -1,5 +1,5 @@
 -- The canonical text of calls, growing piece by piece.
-use Rattle.camp_script.proofs.Common.{◌≡◌, ℕ, ◌+◌, ◌<◌, List, [], ◌∷◌, ◌++◌, codes, get_or, length, take, sym, ap, subst, ◌∙◌, append_assoc, append-nil, Result, flat_map-append, take_more, decimal, flat_map, AllByRecursion, Primitive, Add, Remove, Hunk, Call, call_text, canonical_change, change_body, record_text, section_text, spaced, line_text, OnOk, CanStand, calls_of}
+use Rattle.camp_script.proofs.Common.{◌≡◌, ℕ, ◌+◌, ◌<◌, List, [], ◌∷◌, ◌++◌, codes, get_or, length, take, sym, ap, subst, ◌∙◌, append_assoc, append-nil, Result, flat_map-append, take_more, decimal, flat_map, AllByRecursion, Primitive, Add, Remove, Hunk, Call, call_text, canonical_change, change_body, record_text, section_text, spaced, line_text, OnOk, CanBeInScript, calls_of}
 use Rattle.camp_script.specs.Inside.Written.{patch_text}
 use Rattle.std.proofs.lemmas.List.{map-append}
 use Rattle.camp_script.proofs.TextLemmas.{all_more}
@@ -49,12 +49,12 @@ record_done old branch name changes a b c d result first second third last =
 
 -- one more call of a history
 pub one_more_call : (now new : List ℕ) (history : List (ℕ × Call)) (i : ℕ) (entry : ℕ × Call) → i < length history → entry ≡ get_or history i entry
-    → (now ≡ section_text (calls_of (take i history))) × AllByRecursion CanStand (calls_of (take i history)) → new ≡ now ++ call_text entry.1 → CanStand entry.1
-    → (new ≡ section_text (calls_of (take (i + 1) history))) × AllByRecursion CanStand (calls_of (take (i + 1) history))
+    → (now ≡ section_text (calls_of (take i history))) × AllByRecursion CanBeInScript (calls_of (take i history)) → new ≡ now ++ call_text entry.1 → CanBeInScript entry.1
+    → (new ≡ section_text (calls_of (take (i + 1) history))) × AllByRecursion CanBeInScript (calls_of (take (i + 1) history))
 one_more_call now new history i entry within at so is stands =
     let before = calls_of (take i history) in
     let last = ap calls_of (take_more history i entry within ∙ ap (λ e. take i history ++ e ∷ []) (sym at)) ∙ map-append (λ (e : ℕ × Call). e.1) (take i history) (entry ∷ []) in
-    subst (λ calls. (new ≡ section_text calls) × AllByRecursion CanStand calls) (sym last) (
+    subst (λ calls. (new ≡ section_text calls) × AllByRecursion CanBeInScript calls) (sym last) (
       is ∙ ap (λ t. t ++ call_text entry.1) so.0 ∙ ap (λ t. section_text before ++ t) (sym (append-nil (call_text entry.1))) ∙ sym (flat_map-append call_text before (entry.1 ∷ [])),
-      all_more CanStand before entry.1 so.1 stands,
+      all_more CanBeInScript before entry.1 so.1 stands,
     )

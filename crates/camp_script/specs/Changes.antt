@@ -11,7 +11,7 @@ use Rattle.camp_script.specs.Faults.{fault_at}
 use Rattle.camp_script.specs.Lines.{is_skipped}
 use Rattle.camp_script.specs.Pieces.{NumberedLine, Entry, ends_body, ends_group, entry_words}
 use Rattle.camp_script.specs.Signs.{minus_sign, plus_sign}
-use Rattle.camp_script.specs.Words.{in_turn, no_words, one_word, two_words, path_at, number_at}
+use Rattle.camp_script.specs.Words.{fold_results, no_words, one_word, two_words, path_at, number_at}
 use Rattle.camp_base.specs.Results.{◌>>=◌}
 use Rattle.camp_script.specs.declared.faults.FaultKind.TheVariants.{BadGroup, BadEdit, BadNumber, BadLine}
 use Rattle.camp_script.specs.declared.faults.FaultKind.TheVariants.{EditNotEnded, GroupNotEnded}
@@ -54,7 +54,7 @@ after_body_line edit line =
 -- and a missing `end` is a fault there
 abbrev pub parsed_edit : ℕ → List ℕ → ℕ → List NumberedLine → Result Primitive LineFault
 parsed_edit line path place body =
-    in_turn after_body_line (record { path = path; line = place; old = []; new = [] }) body >>= λ edit.
+    fold_results after_body_line (record { path = path; line = place; old = []; new = [] }) body >>= λ edit.
     if list_any ends_body body then Ok (Hunk edit) else fault_at line EditNotEnded
 
 -- the meaning of a line of a group: no change; a change; an edit, whose body follows; or the end of the group
@@ -108,5 +108,5 @@ after_entry changes entry =
 -- the group begins
 abbrev pub group_of : ℕ → List Entry → Result (List Primitive) LineFault
 group_of line entries =
-    in_turn after_entry [] entries >>= λ changes.
+    fold_results after_entry [] entries >>= λ changes.
     if list_any ends_group entries then Ok changes else fault_at line GroupNotEnded

@@ -11,8 +11,8 @@ use Rattle.camp_script.specs.Lines.{words_of}
 use Rattle.camp_script.specs.Pieces.{NumberedLine, Entry, begins_edit, begins_with, ends_body, ends_group, line_entries, numbered, up_to}
 use Rattle.camp_script.specs.Reading.{script_of_lines}
 use Rattle.camp_script.specs.declared.command_lines.CommandLines.{CommandLines}
-use Rattle.camp_script.specs.declared.cuts.Wanted.{Wanted}
-use Rattle.camp_script.specs.declared.cuts.Wanted.TheVariants.{Nothing, Body, Group, GroupBody}
+use Rattle.camp_script.specs.declared.grouping.Expected.{Expected}
+use Rattle.camp_script.specs.declared.grouping.Expected.TheVariants.{Nothing, Body, Group, GroupBody}
 use Rattle.camp_script.specs.declared.faults.LineFault.{LineFault}
 use Rattle.camp_script.specs.declared.faults.ScriptFault.{ScriptFault}
 
@@ -31,19 +31,19 @@ taken_by (Ok (BeginEdit branch name path place)) lines = up_to ends_body lines
 taken_by (Ok (BeginGroup branch name)) lines = group_lines lines
 taken_by other lines = []
 
--- of the lines after a first line, those that belong to its command
+-- the lines that come after a first line and belong to its command
 abbrev pub taken : List ℕ → List (List ℕ) → List (List ℕ)
 taken first lines = map (λ line. line.bytes) (taken_by (command_of 1 (words_of first)) (numbered 2 lines))
 
 -- whether the next line belongs to the command
-abbrev pub wants : Wanted → Bool
+abbrev pub wants : Expected → Bool
 wants Nothing = false
 wants Body = true
 wants Group = true
 wants GroupBody = true
 
 -- the kind of lines that follow after one more line: a body ends with `end`, and a group with `done`
-abbrev pub wanted_after : Wanted → List ℕ → Wanted
+abbrev pub wanted_after : Expected → List ℕ → Expected
 wanted_after Nothing line = Nothing
 wanted_after Body line = if bytes_eq line (codes "end") then Nothing else Body
 wanted_after GroupBody line = if bytes_eq line (codes "end") then Group else GroupBody
@@ -51,19 +51,20 @@ wanted_after Group line =
     if begins_edit (words_of line) then GroupBody
     else (if begins_with (codes "done") (words_of line) then Nothing else Group)
 
--- of these lines, those that belong to the command
-abbrev pub wanted_lines : Wanted → List (List ℕ) → List (List ℕ)
+-- the first ones of these lines that belong to the command
+abbrev pub wanted_lines : Expected → List (List ℕ) → List (List ℕ)
 wanted_lines wanted [] = []
 wanted_lines wanted (line ∷ lines) = if wants wanted then line ∷ wanted_lines (wanted_after wanted line) lines else []
 
 -- the result of a command: the script that the reader gives or, if a line has a fault, that fault. After out of memory
--- nothing is said of the script.
+-- the script can be any.
 abbrev pub GivesScript : Option ScriptFault → ℕ → Progress → List (List ℕ) → Result (List (List Call)) LineFault → Type 0
 GivesScript None number reading others script = script ≡ read_from (number + 1) reading others
 GivesScript (Some fault) number reading others script = IsFaultOf fault script
 
--- the invariant of a command that has read its first line and the lines `rest`: whatever lines `others` come next, its
--- lines are `rest` and those of `others` that it wants, and reading these gives the script of all its lines
+-- the invariant of a command that has read its first line and the lines `rest`. Whatever lines `others` come next: its
+-- lines are `rest` and the first ones of `others` that it wants; and reading on through these gives the script of all
+-- its lines
 pub record HasRead (command : CommandLines) (first : List ℕ) (rest : List (List ℕ)) : Type 0 where
   pub takes : (others : List (List ℕ)) → taken first (rest ++ others) ≡ rest ++ wanted_lines command.wanted others
   pub reads : (others : List (List ℕ)) → GivesScript command.fault command.number command.reading others (script_of_lines (first ∷ rest ++ others))

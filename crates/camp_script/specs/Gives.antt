@@ -32,14 +32,14 @@ GivesFaultFirst (Ok value) reading = reading ≡ Ok value
 GivesFaultFirst (Err fault) reading = IsFaultFirst fault reading
 
 -- the result of a step that changes the reader in place: after `Ok` the reader is what reading gives; an error is the
--- fault that reading gives, or out of memory if it gives none. After an error the reader is dropped, and nothing is
--- said of it.
+-- fault that reading gives, or out of memory if it gives none. After an error the reader is dropped, so its value does
+-- not matter.
 abbrev pub Advances : {A : Type 0} → Result (Unit {0}) ScriptFault → A → Result A LineFault → Type 0
 Advances (Ok done) new reading = reading ≡ Ok new
 Advances (Err fault) new reading = IsFaultFirst fault reading
 
 -- a word that is a path gives `Ok`, with the path or out of memory inside; any other word gives its fault. So the outer
--- result is never out of memory, and a caller can report a later fault before it.
+-- result is never out of memory, and a caller can report a later fault rather than out of memory.
 abbrev pub GivesPath : Result (Result (List ℕ) AllocError) ScriptFault → ℕ → List ℕ → Type 0
 GivesPath (Ok made) line word = (path_at line word ≡ Ok word) × IfOk made (λ path. path ≡ word)
 GivesPath (Err fault) line word = IsFaultFirst fault (path_at line word) × (fault ≢ Memory)

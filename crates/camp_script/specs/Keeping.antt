@@ -20,8 +20,8 @@ ListsNames (call.Conflicts branch) = Unit {0}
 ListsNames (call.Names branch) = Unit {0}
 
 -- a call can be in a script unless it has an empty list of names
-abbrev pub CanStand : Call → Type 0
-CanStand call = ListsNames call → IsScriptCall call
+abbrev pub CanBeInScript : Call → Type 0
+CanBeInScript call = ListsNames call → IsScriptCall call
 
 -- the calls of a history, without their seats
 abbrev pub calls_of : {Call : Type 0} → List (ℕ × Call) → List Call

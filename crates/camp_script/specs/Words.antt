@@ -11,9 +11,9 @@ use Rattle.camp_script.specs.declared.faults.FaultKind.TheVariants.{WrongNumberO
 use Rattle.camp_script.specs.declared.faults.LineFault.{LineFault}
 
 -- applies a step to each element in order, up to the first fault
-abbrev pub in_turn : {A B E : Type 0} → (A → B → Result A E) → A → List B → Result A E
-in_turn step so_far [] = Ok so_far
-in_turn step so_far (first ∷ others) = step so_far first >>= λ next. in_turn step next others
+abbrev pub fold_results : {A B E : Type 0} → (A → B → Result A E) → A → List B → Result A E
+fold_results step so_far [] = Ok so_far
+fold_results step so_far (first ∷ others) = step so_far first >>= λ next. fold_results step next others
 
 -- a fault if there is any word
 abbrev pub no_words : ℕ → List (List ℕ) → Result (Unit {0}) LineFault

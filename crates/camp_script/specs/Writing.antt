@@ -5,8 +5,8 @@ use Rattle.camp_script.specs.declared.faults.WriteFault.{WriteFault}
 use Rattle.camp_script.specs.declared.faults.WriteFault.TheVariants.{Memory, Write}
 
 -- the known bytes grow by a proper prefix of a text
-abbrev pub AppendsBeginning : Option (List ℕ) → Option (List ℕ) → List ℕ → Type 0
-AppendsBeginning old new text =
+abbrev pub AppendsProperPrefix : Option (List ℕ) → Option (List ℕ) → List ℕ → Type 0
+AppendsProperPrefix old new text =
     (done : List ℕ) × (rest : List ℕ) × (text ≡ done ++ rest) × (0 < length rest) × Appends old new done
 
 -- after Ok the known bytes have grown by the whole text; after out of memory they are unchanged; after an error of the
@@ -14,4 +14,4 @@ AppendsBeginning old new text =
 abbrev pub Writes : Option (List ℕ) → List ℕ → Result (Unit {0}) WriteFault → Option (List ℕ) → Type 0
 Writes old text (Ok done) new = Appends old new text
 Writes old text (Err Memory) new = Keeps old new
-Writes old text (Err (Write error)) new = AppendsBeginning old new text
+Writes old text (Err (Write error)) new = AppendsProperPrefix old new text

@@ -4,8 +4,8 @@ ghost use Rattle.camp_script.specs.CommandLines.{HasRead, wants};
 ghost use Rattle.camp_script.specs.Gives.{Gives};
 ghost use Rattle.camp_script.specs.Reading.{script_of_lines};
 
-use crate::cuts::Wanted;
 use crate::faults::ScriptFault;
+use crate::grouping::Expected;
 use crate::readings::Reading;
 use crate::scripts::Script;
 use std::alloc::{AllocError, Global};
@@ -17,7 +17,7 @@ pub struct CommandLines {
     reading: Reading,
     number: u64,
     fault: Option<ScriptFault>,
-    wanted: Wanted,
+    wanted: Expected,
 }
 
 impl CommandLines {
@@ -28,7 +28,7 @@ impl CommandLines {
         let mut reading = Reading::new(alloc);
         let (fault, wanted) = match reading.read_line(1, line) {
             Ok(()) => (None, reading.wanted()),
-            Err(ScriptFault::Line(fault)) => (Some(ScriptFault::Line(fault)), Wanted::Nothing),
+            Err(ScriptFault::Line(fault)) => (Some(ScriptFault::Line(fault)), Expected::Nothing),
             Err(ScriptFault::Memory) => return Err(AllocError),
         };
         Ok(CommandLines {
@@ -43,7 +43,7 @@ impl CommandLines {
     pub fn wants_more(&self) -> bool
         ensures exact { result ≡ wants self.now.wanted }
     {
-        !matches!(self.wanted, Wanted::Nothing)
+        !matches!(self.wanted, Expected::Nothing)
     }
 
     /// Reads the next line of the command. If memory runs out, or the line number is out of range, the command's fault

@@ -13,12 +13,11 @@ use crate::lines::{Words, first_words, is_comment};
 use crate::readings::Reading;
 use crate::records::{OpenEdit, OpenRecord, WholeFile};
 use crate::words::{
-    name_at, names_at, no_words, number_at, one_word, path_at, test_names, three_words, two_words,
+    list_names, name_at, no_words, number_at, one_word, path_at, three_words, two_words,
 };
 use camp_base::{Name, Path};
 use camp_call::{Call, Changes, Names};
-use camp_prim::Primitive;
-use std::alloc::{AllocError, Global};
+use camp_prim::SideLines;
 
 /// The meaning of a command: a call, the record of an edit or of a group, or the section of the next client.
 #[derive(Drop)]
@@ -53,8 +52,8 @@ impl Reading {
         self.read_command(number, word, words)
     }
 
-    // Parses a command from its first word and the others. It is a function of its own so that its fault is proved once
-    // for all lines.
+    // Parses a command from its first word and the others. A function of its own, so that its fault is proved once for
+    // all kinds of commands.
     fn read_command(
         &mut self,
         number: u64,
@@ -63,7 +62,7 @@ impl Reading {
     ) -> Result<(), ScriptFault>
         ensures { Advances result self.new (after_parsed_command number self.old (command number word.now words.entry)) }
     {
-        let asked = self.asked_by(number, word, words)?;
+        let asked = self.parse_command(number, word, words)?;
         self.take_command(number, asked)
     }
 
@@ -73,7 +72,7 @@ impl Reading {
         ensures { Advances result self.new (after_command number self.old (command_parsed asked)) }
     {
         match asked {
-            ParsedLine::Call(call) => self.follow(number, call),
+            ParsedLine::Call(call) => self.append_call(number, call),
             ParsedLine::Section => self.next_section(number),
             ParsedLine::Group { branch, name } => self.begin_group(number, branch, name),
             ParsedLine::Edit {
@@ -88,7 +87,7 @@ impl Reading {
     fn begin_group(&mut self, number: u64, branch: Name, name: Name) -> Result<(), ScriptFault>
         ensures { Advances result self.new (after_command number self.old (command.BeginGroup branch name)) }
     {
-        self.test_room(number)?;
+        self.check_limit(number)?;
         let changes = Vec::new(self.allocator());
         self.with_record(OpenRecord {
             branch,
@@ -112,14 +111,14 @@ impl Reading {
         requires { 1 ≤ line }
         ensures { Advances result self.new (after_command number self.old (command.BeginEdit branch name path line)) }
     {
-        self.test_room(number)?;
+        self.check_limit(number)?;
         let alloc = self.allocator();
         let open_edit = Some(OpenEdit {
             path,
             line,
             opened: number,
-            old: Vec::new(alloc),
-            new: Vec::new(alloc),
+            old: SideLines::new(),
+            new: SideLines::new(),
         });
         self.with_record(OpenRecord {
             branch,
@@ -133,7 +132,7 @@ impl Reading {
     }
 
     // Parses a command from its first word and the others.
-    fn asked_by(
+    fn parse_command(
         &self,
         number: u64,
         word: &[u8],
@@ -220,8 +219,8 @@ impl Reading {
         let branch = name_at(number, branch)?;
         let name = name_at(number, name)?;
         let path = path_at(self.allocator(), number, path)?;
-        self.test_room(number)?;
-        let changes = one_change(self.allocator(), file.at(path?))?;
+        self.check_limit(number)?;
+        let changes = Changes::of_one(file.at(path?));
         Ok(ParsedLine::Call(Call::Record {
             branch,
             name,
@@ -241,9 +240,9 @@ impl Reading {
     {
         let branch = name_at(number, branch)?;
         let name = name_at(number, name)?;
-        let path = self.path_again(number, path)?;
+        let path = self.parse_path_shared(number, path)?;
         let line = number_at(number, line)?;
-        self.test_room(number)?;
+        self.check_limit(number)?;
         Ok(ParsedLine::Edit {
             branch,
             name,
@@ -263,10 +262,9 @@ impl Reading {
         };
         let from = name_at(number, from)?;
         let to = name_at(number, to)?;
-        test_names(number, words.again())?;
-        self.test_room(number)?;
-        let names = names_at(self.allocator(), number, words)?;
-        let names = names_or_all(names);
+        let names = list_names(self.allocator(), number, words)?;
+        self.check_limit(number)?;
+        let names = names_or_all(names?);
         Ok(ParsedLine::Call(Call::Pull { from, to, names }))
     }
 
@@ -276,13 +274,13 @@ impl Reading {
         let Some(branch) = words.next() else {
             return Err(at_line(number, FaultKind::WrongNumberOfWords));
         };
-        if words.again().next().is_none() {
+        if words.duplicate().next().is_none() {
             return Err(at_line(number, FaultKind::WrongNumberOfWords));
         }
         let branch = name_at(number, branch)?;
-        test_names(number, words.again())?;
-        self.test_room(number)?;
-        let names = names_at(self.allocator(), number, words)?;
+        let names = list_names(self.allocator(), number, words)?;
+        self.check_limit(number)?;
+        let names = names?;
         Ok(ParsedLine::Call(Call::Obliterate { branch, names }))
     }
 
@@ -313,18 +311,6 @@ fn branch_at(number: u64, words: &[&[u8]]) -> Result<Name, ScriptFault>
     ensures told { IfErr result (λ fault. fault ≢ ScriptFault.Memory) }
 {
     name_at(number, one_word(number, words)?)
-}
-
-// Makes the changes of a record from a single change.
-fn one_change(alloc: Global, change: Primitive) -> Result<Changes, AllocError>
-    ensures { IfOk result (λ changes. changes ≡ change ∷ []) }
-{
-    let mut changes = Vec::new(alloc);
-    changes.push(change)?;
-    let Some(changes) = Changes::new(changes) else {
-        unreachable!();
-    };
-    Ok(changes)
 }
 
 // Returns the names that a pull lists; without a list it pulls all.

@@ -12,7 +12,8 @@ ghost use Rattle.camp_script.specs.Inside.ReadingFields.{open_record_of, open_ed
 ghost use Rattle.camp_script.specs.Lines.{is_skipped, words_of};
 ghost use Rattle.camp_script.specs.Changes.{whole_change, edit_change, change_of, group_line_of, grown, ended_edit};
 ghost use Rattle.camp_script.specs.Inside.Asking.{HasRoomForChange, ParsesGroupLine, ended_change, group_line_parsed};
-ghost use Rattle.camp_script.specs.Inside.Progress.{after_change, with_edit, with_one_more, with_record};
+ghost use Rattle.camp_script.specs.Inside.Progress.{after_change, with_call, with_edit, with_one_more, with_record};
+ghost use Rattle.camp_call.specs.declared.calls.Call.TheVariants as call;
 ghost use Rattle.camp_script.specs.Inside.Steps.{after_group_line, after_parsed_group_line, after_end, after_body, after_record_line, HasMeaningIn};
 
 use crate::faults::{FaultKind, ScriptFault, at_line};
@@ -21,8 +22,8 @@ use crate::readings::Reading;
 use crate::records::{OpenEdit, OpenRecord, WholeFile};
 use crate::words::{no_words, number_at, one_word, path_at, two_words};
 use camp_base::{BaseFault, Line, Path};
-use camp_call::MAX_CHANGES;
-use camp_prim::Primitive;
+use camp_call::{Call, Changes, MAX_CHANGES};
+use camp_prim::{Primitive, SideLines};
 use std::alloc::Global;
 
 /// The greatest sum of the line of an edit and the numbers of its old and of its new lines.
@@ -134,13 +135,12 @@ impl Reading {
         requires counted { 1 ≤ line }
         ensures { self.new ≡ with_record self.old (with_edit (open_record_of begun) path line number) }
     {
-        let alloc = self.allocator();
         begun.open_edit = Some(OpenEdit {
             path,
             line,
             opened: number,
-            old: Vec::new(alloc),
-            new: Vec::new(alloc),
+            old: SideLines::new(),
+            new: SideLines::new(),
         });
         self.with_record(begun)
     }
@@ -254,6 +254,9 @@ impl Reading {
         requires room { length begun.changes.items < most_changes }
         ensures { Advances result self.new (after_change number self.old (open_record_of begun) change) }
     {
+        if !begun.grouped && begun.changes.is_empty() {
+            return self.end_single(begun, change);
+        }
         begun.changes.push(change)?;
         begun.open_edit = None;
         if begun.grouped {
@@ -261,6 +264,20 @@ impl Reading {
             return Ok(());
         }
         self.end_record(number, begun)
+    }
+
+    // Ends a record whose only change this is.
+    fn end_single(&mut self, begun: OpenRecord, change: Primitive) -> Result<(), ScriptFault>
+        requires { IsOpen self.old.calls begun }
+        ensures { Advances result self.new (Ok (with_call self.old (call.Record begun.branch begun.name (change ∷ [])))) }
+    {
+        let changes = Changes::of_one(change);
+        let call = Call::Record {
+            branch: begun.branch,
+            name: begun.name,
+            changes,
+        };
+        self.with_call(call, true)
     }
 }
 
@@ -277,10 +294,10 @@ fn close(alloc: Global, number: u64, edit: OpenEdit) -> Result<Primitive, Script
         old,
         new,
     } = edit;
-    let Some(change) = Primitive::hunk(path, line, old, new) else {
+    let Some(change) = Primitive::of_sides(alloc, path, line, old, new)? else {
         unreachable!();
     };
-    Ok(change.into_shared(alloc)?)
+    Ok(change)
 }
 
 // Checks that an edit may end: a side has lines, and its hunk is in range.
@@ -319,12 +336,12 @@ fn grow(alloc: Global, number: u64, line: &[u8], edit: &mut OpenEdit) -> Result<
     match line {
         [b'-', bytes @ ..] if edit.new.is_empty() => {
             let line = line_at(alloc, number, bytes)?;
-            edit.old.push(line)?;
+            edit.old.push(alloc, line)?;
             Ok(())
         }
         [b'+', bytes @ ..] => {
             let line = line_at(alloc, number, bytes)?;
-            edit.new.push(line)?;
+            edit.new.push(alloc, line)?;
             Ok(())
         }
         _ => Err(at_line(number, FaultKind::BadEdit)),

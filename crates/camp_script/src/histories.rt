@@ -5,7 +5,7 @@ ghost use Rattle.camp_base.specs.Signs.{space};
 ghost use Rattle.camp_script.specs.Canonical.{AreNames};
 ghost use Rattle.camp_script.specs.HistoryTexts.{change_words, changes_words, call_words, entry_text, history_text};
 ghost use Rattle.camp_script.specs.Inside.Spaces.{spaced};
-ghost use Rattle.camp_script.specs.Inside.Written.{CanStandOnLine};
+ghost use Rattle.camp_script.specs.Inside.Written.{CanBeOnLine};
 ghost use Rattle.camp_script.specs.Writing.{Writes};
 
 use crate::WriteFault;
@@ -64,7 +64,7 @@ fn append_entry(text: &mut Vec<u8>, at: u64, seat: u32, call: &Call) -> Result<(
 /// Appends the words of a call, as in a history, with one space between each two.
 pub(crate) fn append_call_words(text: &mut Vec<u8>, call: &Call) -> Result<(), AllocError>
     ensures text { OnOk result (text.new.items ≡ text.old.items ++ join_with_byte space (call_words call.now)) }
-    ensures stands { IfOk result (λ _. CanStandOnLine call.now) }
+    ensures stands { IfOk result (λ _. CanBeOnLine call.now) }
 {
     match call {
         Call::Branch { new, from } => append_command(text, b"branch", &[*new, *from], &[]),

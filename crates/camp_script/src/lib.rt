@@ -4,8 +4,8 @@
 mod canonical;
 mod command_lines;
 mod commands;
-mod cuts;
 mod faults;
+mod grouping;
 mod groups;
 mod histories;
 mod lines;
@@ -21,8 +21,8 @@ mod writing;
 
 pub use canonical::{canonical_text_reads_back, what_is_read_can_be_written};
 pub use command_lines::CommandLines;
-pub use cuts::{begins_edit, begins_with};
 pub use faults::{CallFault, FaultKind, LineFault, ScriptFault, WriteFault, at_line};
+pub use grouping::{begins_edit, begins_with};
 pub use histories::{history_text, write_history};
 pub use lines::{FirstWords, Words, after_word, first_words, without_end};
 pub use outputs::output_text;

@@ -9,10 +9,10 @@ use std::marker::Model;
 
 /// One more than the most words that may follow the first word of a command without a list: more than these are not
 /// read.
-const SOME_WORDS: usize = 6;
+const MAX_WORDS_READ: usize = 6;
 
 /// The words of a line after its first; if the capacity is reached, the line may have more.
-pub type FirstWords<'a> = ArrayVec<&'a [u8], SOME_WORDS>;
+pub type FirstWords<'a> = ArrayVec<&'a [u8], MAX_WORDS_READ>;
 
 /// The words of a line, from the first to the last: the bytes between runs of spaces and tabs.
 #[derive(Drop)]
@@ -40,7 +40,7 @@ impl<'a> Words<'a> {
     }
 
     /// Copies the iterator over the same words.
-    pub fn again(&self) -> Words<'a>
+    pub fn duplicate(&self) -> Words<'a>
         ensures exact { result ≡ self.now }
     {
         Words { rest: self.rest }

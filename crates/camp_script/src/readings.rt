@@ -8,8 +8,8 @@ ghost use Rattle.camp_script.specs.declared.faults.FaultKind.TheVariants as kind
 ghost use Rattle.camp_script.specs.Inside.Steps.{after_line, HasMeaning, wanted_in};
 ghost use Rattle.camp_script.specs.Inside.ReadingFields.{open_record_of};
 
-use crate::cuts::Wanted;
 use crate::faults::{FaultKind, ScriptFault, at_line};
+use crate::grouping::Expected;
 use crate::records::OpenRecord;
 use crate::scripts::Script;
 use crate::words::path_at;
@@ -43,7 +43,7 @@ impl Model for Reading {
 }
 
 impl Reading {
-    ghost use Rattle.camp_script.specs.Inside.ReadingFields.{open_record_of, open_edit_of, MayGrow, IsOpen, IsAwaited};
+    ghost use Rattle.camp_script.specs.Inside.ReadingFields.{open_record_of, open_edit_of, MayGrow, IsOpen, OpenRecordFits};
 
     /// Starts before the first line.
     pub(crate) fn new(alloc: Global) -> Reading
@@ -63,7 +63,7 @@ impl Reading {
 
     /// Parses a word as a path, as `path_at` does. If the call before ends with a change at the same path, shares its
     /// bytes.
-    pub(crate) fn path_again(
+    pub(crate) fn parse_path_shared(
         &self,
         number: u64,
         word: &[u8],
@@ -96,13 +96,13 @@ impl Reading {
     }
 
     /// Returns the kind of lines that follow a first line, given the record that it has opened.
-    pub(crate) fn wanted(&self) -> Wanted
+    pub(crate) fn wanted(&self) -> Expected
         ensures { result ≡ wanted_in self.now.open_record }
     {
         match &self.open_record {
-            None => Wanted::Nothing,
-            Some(begun) if begun.grouped => Wanted::Group,
-            Some(_) => Wanted::Body,
+            None => Expected::Nothing,
+            Some(begun) if begun.grouped => Expected::Group,
+            Some(_) => Expected::Body,
         }
     }
 
@@ -124,7 +124,7 @@ impl Reading {
     }
 
     /// Checks that a section may have one more writing call; else returns a fault at this line.
-    pub(crate) fn test_room(&self, number: u64) -> Result<(), ScriptFault>
+    pub(crate) fn check_limit(&self, number: u64) -> Result<(), ScriptFault>
         ensures room { IfOk result (λ _. is_full self.now.calls ≡ false) }
         ensures fault { IfErr result (λ fault. (fault ≡ ScriptFault.Line (record { line = number; kind = kind.TooManyCommands })) × (is_full self.now.calls ≡ true)) }
     {
@@ -134,13 +134,14 @@ impl Reading {
         Ok(())
     }
 
-    pub(crate) fn with_call(&mut self, call: Call) -> Result<(), ScriptFault>
-        requires { is_writing call ≡ true → MayGrow self.old.calls }
+    /// Appends a call, given whether it writes.
+    pub(crate) fn with_call(&mut self, call: Call, writes: bool) -> Result<(), ScriptFault>
+        requires exact { writes ≡ is_writing call }
+        requires room { writes ≡ true → MayGrow self.old.calls }
         ensures { Advances result self.new (Ok (with_call self.old call)) }
     {
-        let writing = call.is_writing();
         self.calls.push(call)?;
-        if writing {
+        if writes {
             self.writes += 1;
         }
         self.open_record = None;
@@ -167,22 +168,26 @@ impl Reading {
         } = begun;
         match Changes::new(changes) {
             None => Err(at_line(number, FaultKind::BadGroup)),
-            Some(changes) => self.with_call(Call::Record {
-                branch,
-                name,
-                changes,
-            }),
+            Some(changes) => {
+                let call = Call::Record {
+                    branch,
+                    name,
+                    changes,
+                };
+                self.with_call(call, true)
+            }
         }
     }
 
     /// Appends a call on a single line.
-    pub(crate) fn follow(&mut self, number: u64, call: Call) -> Result<(), ScriptFault>
+    pub(crate) fn append_call(&mut self, number: u64, call: Call) -> Result<(), ScriptFault>
         ensures { Advances result self.new (after_call number self.old call) }
     {
-        if call.is_writing() {
-            self.test_room(number)?;
+        let writes = call.is_writing();
+        if writes {
+            self.check_limit(number)?;
         }
-        self.with_call(call)
+        self.with_call(call, writes)
     }
 
     /// Reads the line of a client: the next section begins.

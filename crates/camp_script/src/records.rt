@@ -4,8 +4,8 @@ ghost use Rattle.camp_script.specs.Inside.Files.{change_at};
 ghost use Rattle.camp_script.specs.Inside.ReadingFields.{open_record_of, IsNotEnded};
 
 use crate::faults::{FaultKind, ScriptFault, at_line};
-use camp_base::{Line, Name, Path};
-use camp_prim::Primitive;
+use camp_base::{Name, Path};
+use camp_prim::{Primitive, SideLines};
 
 /// A record that has not ended: the line that begins it, whether its changes are in a group, those so far,
 /// and the edit that has not ended, if any.
@@ -37,8 +37,8 @@ pub(crate) struct OpenEdit {
     pub path: Path,
     pub line: u32,
     pub opened: u64,
-    pub old: Vec<Line>,
-    pub new: Vec<Line>,
+    pub old: SideLines,
+    pub new: SideLines,
 }
 
 /// What a change does to a whole file.

@@ -4,7 +4,7 @@ ghost use Rattle.std.specs.List.{flat_map};
 ghost use Rattle.std.specs.Io.KnownBytes.{Appends};
 ghost use Rattle.camp_base.specs.Bytes.{is_line};
 ghost use Rattle.camp_script.specs.Texts.{line_text, refusal_words, signed_line, file_text, tree_text, reply_text, answer_text, HasText, pair_text, name_text};
-ghost use Rattle.camp_script.specs.Writing.{AppendsBeginning, Writes};
+ghost use Rattle.camp_script.specs.Writing.{AppendsProperPrefix, Writes};
 
 use crate::WriteFault;
 use crate::spaces::{append_count, append_line, append_numbered};
@@ -51,7 +51,7 @@ pub(crate) fn write_made<W: Write>(
 pub fn write_text<W: Write>(writer: &mut W, text: &[u8]) -> io::Result<()>
     ensures writes { MatchResult result
         (λ _. Appends (W.contents writer.old) (W.contents writer.new) text.now)
-        (λ _. AppendsBeginning (W.contents writer.old) (W.contents writer.new) text.now) }
+        (λ _. AppendsProperPrefix (W.contents writer.old) (W.contents writer.new) text.now) }
 {
     let mut rest = text;
     for _ in 0..u64::MAX {

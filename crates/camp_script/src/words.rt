@@ -83,23 +83,31 @@ pub fn name_at(number: u64, word: &[u8]) -> Result<Name, ScriptFault>
 pub fn names_at(alloc: Global, number: u64, words: Words<'_>) -> Result<Names, ScriptFault>
     ensures given { Gives result (names_at number words.entry) }
 {
-    let mut names = Vec::new(alloc);
-    for word in words {
-        names.push(name_at(number, word)?)?;
-    }
-    Ok(Names::new(names))
+    let names = list_names(alloc, number, words)?;
+    Ok(names?)
 }
 
-/// Checks that words are names; does not allocate.
-pub(crate) fn test_names(number: u64, words: Words<'_>) -> Result<(), ScriptFault>
-    ensures passed { IfOk result (λ _. (names : List (List ℕ)) × (names_at number words.entry ≡ Ok names)) }
-    ensures given { IfErr result (λ fault. IsFaultFirst fault (names_at number words.entry)) }
+/// Parses all words as names, each once. A word that is no name is an error at once; out of memory is returned inside,
+/// so that a caller can report a later fault before it.
+pub(crate) fn list_names(
+    alloc: Global,
+    number: u64,
+    words: Words<'_>,
+) -> Result<Result<Names, AllocError>, ScriptFault>
+    ensures given { IfOk result (λ listed. (names : List (List ℕ)) × (names_at number words.entry ≡ Ok names) × IfOk listed (λ list. list ≡ names)) }
+    ensures fault { IfErr result (λ fault. IsFaultFirst fault (names_at number words.entry)) }
     ensures told { IfErr result (λ fault. fault ≢ ScriptFault.Memory) }
 {
+    let mut names = Vec::new(alloc);
+    let mut has_memory = true;
     for word in words {
-        name_at(number, word)?;
+        let name = name_at(number, word)?;
+        has_memory = has_memory && names.push(name).is_ok();
     }
-    Ok(())
+    if has_memory {
+        return Ok(Ok(Names::new(names)));
+    }
+    Ok(Err(AllocError))
 }
 
 /// Parses a path. A word that is no path is an error at once; out of memory is returned inside, so that a caller can

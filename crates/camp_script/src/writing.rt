@@ -5,7 +5,7 @@ ghost use Rattle.camp_base.specs.Bytes.{is_name};
 ghost use Rattle.camp_prim.specs.declared.primitives.Primitive.TheVariants as primitive;
 ghost use Rattle.camp_script.specs.Canonical.{canonical_change, call_text, record_text, section_text, AreLines, IsChange, IsScriptCall};
 ghost use Rattle.camp_script.specs.Inside.Written.{patch_text};
-ghost use Rattle.camp_script.specs.Keeping.{CanStand, ListsNames, calls_of, kept_text};
+ghost use Rattle.camp_script.specs.Keeping.{CanBeInScript, ListsNames, calls_of, kept_text};
 ghost use Rattle.camp_script.specs.Texts.{signed_line};
 
 use crate::CallFault;
@@ -35,7 +35,7 @@ pub fn call_text(alloc: Global, call: &Call) -> Result<Vec<u8>, CallFault>
 /// such a call is rendered as if it had no list.
 pub fn accepted_text(alloc: Global, call: &Call) -> Result<Vec<u8>, AllocError>
     ensures text { IfOk result (λ text. text.items ≡ call_text call.now) }
-    ensures stands { IfOk result (λ _. CanStand call.now) }
+    ensures stands { IfOk result (λ _. CanBeInScript call.now) }
 {
     let mut text = Vec::new(alloc);
     append_call(&mut text, call)?;
@@ -62,7 +62,7 @@ pub fn section_text(alloc: Global, calls: &[Call]) -> Result<Vec<u8>, CallFault>
 /// stored.
 pub fn kept_text(alloc: Global, history: &[(u32, Call)]) -> Result<Vec<u8>, AllocError>
     ensures text { IfOk result (λ text. text.items ≡ kept_text history.now) }
-    ensures stand { IfOk result (λ _. AllByRecursion CanStand (calls_of history.now)) }
+    ensures stand { IfOk result (λ _. AllByRecursion CanBeInScript (calls_of history.now)) }
 {
     let mut text = Vec::new(alloc);
     for entry in history {
@@ -98,7 +98,7 @@ fn lists_names(call: &Call) -> bool
 
 fn append_call(text: &mut Vec<u8>, call: &Call) -> Result<(), AllocError>
     ensures text { OnOk result (text.new.items ≡ text.old.items ++ call_text call.now) }
-    ensures stands { IfOk result (λ _. CanStand call.now) }
+    ensures stands { IfOk result (λ _. CanBeInScript call.now) }
 {
     match call {
         Call::Record {

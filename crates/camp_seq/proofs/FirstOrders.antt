@@ -1,7 +1,7 @@
 -- An element followed by a list that is its own normal order.
 use Rattle.camp_seq.proofs.Words.{◌≡◌, ◌≢◌, Bool, true, false, IsTrue, ℕ, zero, suc, ◌+◌, ◌<◌, ◌≤◌, List, [], ◌∷◌, ◌++◌, length, take, drop, get_or, set, set-get_or, refl, sym, ap, ◌∙◌, subst, inl, inr, arith, append_assoc, length-set, drop_all, drop_at, drop_more, length-take-le, take_at, take_more_set, Less, label_of, label_cmp, Commute, Label, Named, not_below, not_above, not_below_both, IsLeast, Norm, Fronts, HasRoom, Passes, backwards, swap_unique}
 use Rattle.camp_seq.specs.Chains.{CanCommute}
-use Rattle.camp_seq.specs.Inside.FirstInOrder.{GoesIn, OrderedFrom, StaysBehind, NoneBefore}
+use Rattle.camp_seq.specs.Inside.FirstInOrder.{CommutedRightInOrder, OrderedFrom, StaysAfterFirst, NoneLessCanPass}
 use Rattle.camp_seq.proofs.ListEquivalence.{ordered}
 use Rattle.camp_seq.proofs.ListSteps.{at_next, drop_next}
 use Rattle.camp_seq.proofs.NormalForms.{normal_form}
@@ -42,7 +42,7 @@ none_first x s own none =
     (s, inl (refl, refl, refl), least, own)
 
 -- the insertion moves x one position to the right
-pub goes_in_more : (s0 s : List Named) (x0 x : Named) (i : ℕ) (d q' x' : Named) → Norm s0 s0 → i < length s → label_cmp (label_of (get_or s i d)) (label_of x) ≡ Less → Commute x (get_or s i d) q' x' → GoesIn s0 x0 i s x → GoesIn s0 x0 (i + 1) (set s i q') x'
+pub goes_in_more : (s0 s : List Named) (x0 x : Named) (i : ℕ) (d q' x' : Named) → Norm s0 s0 → i < length s → label_cmp (label_of (get_or s i d)) (label_of x) ≡ Less → Commute x (get_or s i d) q' x' → CommutedRightInOrder s0 x0 i s x → CommutedRightInOrder s0 x0 (i + 1) (set s i q') x'
 goes_in_more s0 s x0 x i d q' x' own within less swap w =
     let q : Named = get_or s i d in
     let next : drop i s0 ≡ q ∷ drop (i + 1) s0 = at_next s0 s i d within w.long w.waiting in
@@ -62,14 +62,14 @@ goes_in_more s0 s x0 x i d q' x' own within less swap w =
     }
 
 -- an element that commutes past a suffix commutes past its first element
-pub never_stuck : (s0 s : List Named) (x0 x : Named) (i : ℕ) (d : Named) (t : List Named) (p : Named) → i < length s → GoesIn s0 x0 i s x → Passes x0 s0 t p → ¬ ((a b : Named) → ¬ (Commute x (get_or s i d) a b))
+pub never_stuck : (s0 s : List Named) (x0 x : Named) (i : ℕ) (d : Named) (t : List Named) (p : Named) → i < length s → CommutedRightInOrder s0 x0 i s x → Passes x0 s0 t p → ¬ ((a b : Named) → ¬ (Commute x (get_or s i d) a b))
 never_stuck s0 s x0 x i d t p within w m never =
     let v = w.passing t p m in
     let here = subst (λ l. Passes x l v.0 v.1) (at_next s0 s i d within w.long w.waiting) v.2 in
     never here.0 here.1 here.3
 
 -- x stays before an element whose label is not less
-pub waits : (s0 s : List Named) (x0 x : Named) (i : ℕ) (d : Named) → Norm s0 s0 → i < length s → label_cmp (label_of (get_or s i d)) (label_of x) ≢ Less → GoesIn s0 x0 i s x → Norm (x ∷ drop i s0) (x ∷ drop i s0)
+pub waits : (s0 s : List Named) (x0 x : Named) (i : ℕ) (d : Named) → Norm s0 s0 → i < length s → label_cmp (label_of (get_or s i d)) (label_of x) ≢ Less → CommutedRightInOrder s0 x0 i s x → Norm (x ∷ drop i s0) (x ∷ drop i s0)
 waits s0 s x0 x i d own within not w =
     let q : Named = get_or s i d in
     let rest : List Named = drop (i + 1) s0 in
@@ -82,13 +82,13 @@ waits s0 s x0 x i d own within not w =
 pub waits_last : (s0 : List Named) (x : Named) (i : ℕ) → length s0 ≤ i → Norm (x ∷ drop i s0) (x ∷ drop i s0)
 waits_last s0 x i all = rw (drop_all i s0 all) (chain_is_ordered (x ∷ []) (tt, tt))
 
-pub goes_in_no_more : (s0 s : List Named) (x0 x : Named) (i : ℕ) (d q' x' : Named) → ◌≡◌ {A = Named × Named} (x', q') (x, get_or s i d) → GoesIn s0 x0 i s x → GoesIn s0 x0 i (set s i q') x'
+pub goes_in_no_more : (s0 s : List Named) (x0 x : Named) (i : ℕ) (d q' x' : Named) → ◌≡◌ {A = Named × Named} (x', q') (x, get_or s i d) → CommutedRightInOrder s0 x0 i s x → CommutedRightInOrder s0 x0 i (set s i q') x'
 goes_in_no_more s0 s x0 x i d q' x' e w =
-    subst (λ l. GoesIn s0 x0 i l x') (sym (ap (set s i) (λ k. (e k).1) ∙ set-get_or s i d)) (subst (GoesIn s0 x0 i s) (sym (λ k. (e k).0)) w)
+    subst (λ l. CommutedRightInOrder s0 x0 i l x') (sym (ap (set s i) (λ k. (e k).1) ∙ set-get_or s i d)) (subst (CommutedRightInOrder s0 x0 i s) (sym (λ k. (e k).0)) w)
 
 -- if p stays after `last`, and nothing can be moved in front of p, then nothing of p s can be moved in front of
 -- `last`
-behind_those : (label greatest more : Label) (last p : Named) (s : List Named) → IsLeast (label_of p) (p ∷ s) → StaysBehind greatest last p more → NoneBefore label more p s → NoneBefore label greatest last (p ∷ s)
+behind_those : (label greatest more : Label) (last p : Named) (s : List Named) → IsLeast (label_of p) (p ∷ s) → StaysAfterFirst greatest last p more → NoneLessCanPass label more p s → NoneLessCanPass label greatest last (p ∷ s)
 behind_those label greatest more last p s least (inl w) none other found u (inl f) moves above =
     absurd (above (subst (λ l. label_cmp l greatest ≡ Less) f.0 w.0))
 behind_those label greatest more last p s least (inl w) none other found u (inr f) moves above =
@@ -99,13 +99,13 @@ behind_those label greatest more last p s least (inr w) none other found u (inr 
     none other f.1.0 f.1.2 f.1.3 (found, (f.1.1, f.1.4)) (subst (λ l. label_cmp other l ≢ Less) (sym w.1) (least other found u (inr f)))
 
 -- x stays first if no element of the list can be moved in front of it
-pub first_stays : (x p : Named) (s rest : List Named) → s ≡ p ∷ rest → Norm s s → NoneBefore (label_of x) (label_of p) x s → Norm (x ∷ s) (x ∷ s)
+pub first_stays : (x p : Named) (s rest : List Named) → s ≡ p ∷ rest → Norm s s → NoneLessCanPass (label_of x) (label_of p) x s → Norm (x ∷ s) (x ∷ s)
 first_stays x p s rest is own none =
     let least = (rest_ordered p rest (subst (λ l. Norm l l) is own)).0 in
     none_first x s own (λ other y t front moves. none other y t front moves (least other y t (subst (λ l. Fronts other l y t) is front)))
 
 -- a check in progress over a list that is its own normal order
-module _ (s : List Named) (own : Norm s s) (at : ℕ) (label greatest : Label) (last : Named) (Fact : Type 0) (so_far : NoneBefore label greatest last (drop at s) → Fact) where
+module _ (s : List Named) (own : Norm s s) (at : ℕ) (label greatest : Label) (last : Named) (Fact : Type 0) (so_far : NoneLessCanPass label greatest last (drop at s) → Fact) where
   module _ (p : Named) (within : at < length s) (is : p ≡ get_or s at p) where
     next : drop at s ≡ p ∷ drop (at + 1) s
     next = drop_more s at p within ∙ ap (λ q. q ∷ drop (at + 1) s) (sym is)
@@ -113,21 +113,21 @@ module _ (s : List Named) (own : Norm s s) (at : ℕ) (label greatest : Label) (
     least : IsLeast (label_of p) (p ∷ drop (at + 1) s)
     least = (rest_ordered p (drop (at + 1) s) (subst (λ l. Norm l l) next (own_behind s at own))).0
 
-    pub look_on : (more : Label) → StaysBehind greatest last p more → NoneBefore label more p (drop (at + 1) s) → Fact
+    pub look_on : (more : Label) → StaysAfterFirst greatest last p more → NoneLessCanPass label more p (drop (at + 1) s) → Fact
     look_on more stays none =
-        so_far (subst (NoneBefore label greatest last) (sym next) (behind_those label greatest more last p (drop (at + 1) s) least stays none))
+        so_far (subst (NoneLessCanPass label greatest last) (sym next) (behind_those label greatest more last p (drop (at + 1) s) least stays none))
 
     -- the check ends at a label that is not less: no element after it with a lesser label can be moved in front
     pub look_no_further : label_cmp (label_of p) label ≢ Less → Fact
     look_no_further not =
-        so_far (subst (NoneBefore label greatest last) (sym next) (λ other found u f moves above. not_below_both other (label_of p) label (least other found u f) not))
+        so_far (subst (NoneLessCanPass label greatest last) (sym next) (λ other found u f moves above. not_below_both other (label_of p) label (least other found u f) not))
 
   pub looked_at_all : at ≡ length s → Fact
   looked_at_all all =
-      so_far (subst (NoneBefore label greatest last) (sym (drop_all at s (omega (arith, all)))) (λ other found u f moves above. absurd f))
+      so_far (subst (NoneLessCanPass label greatest last) (sym (drop_all at s (omega (arith, all)))) (λ other found u f moves above. absurd f))
 
 -- the list after the insertion: x at its position, and the suffix after it in normal order
-pub put_there : (s0 s : List Named) (x0 x : Named) (at : ℕ) (stays : Bool) (items t : List Named) → GoesIn s0 x0 at s x → (IsTrue stays → Norm (x ∷ drop at s0) (x ∷ drop at s0)) → items ≡ take at s ++ x ∷ drop at s → OrderedFrom items at stays t → Norm (x0 ∷ s0) t
+pub put_there : (s0 s : List Named) (x0 x : Named) (at : ℕ) (stays : Bool) (items t : List Named) → CommutedRightInOrder s0 x0 at s x → (IsTrue stays → Norm (x ∷ drop at s0) (x ∷ drop at s0)) → items ≡ take at s ++ x ∷ drop at s → OrderedFrom items at stays t → Norm (x0 ∷ s0) t
 put_there s0 s x0 x at true items t w own is same =
     subst (Norm (x0 ∷ s0)) (sym (same ∙ is ∙ ap (λ l. take at s ++ x ∷ l) w.waiting)) (w.ordered (x ∷ drop at s0) (own refl))
 put_there s0 s x0 x at false items t w own is (rest, order, becomes) =

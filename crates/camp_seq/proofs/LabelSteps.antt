@@ -1,5 +1,5 @@
 -- Tries labels in ascending order.
-use Rattle.camp_seq.proofs.Words.{◌≡◌, ◌≢◌, ℕ, zero, suc, ◌+◌, ◌<◌, ◌≤◌, Bool, true, false, if◌then◌else◌, List, [], ◌∷◌, Option, None, Some, length, take, get_or, IsTrue, refl, sym, ap, subst, inl, inr, arith, All-more, All-weaker, Less, label_of, label_cmp, Label, Named, label_total, less_unless, not_below, less_from_lt, is_above, StartsAbove, HasLabel, NoneLess, LeastAbove, untried, Settles, IsLeast, Fronts, take_all}
+use Rattle.camp_seq.proofs.Words.{◌≡◌, ◌≢◌, ℕ, zero, suc, ◌+◌, ◌<◌, ◌≤◌, Bool, true, false, if◌then◌else◌, List, [], ◌∷◌, Option, None, Some, length, take, get_or, IsTrue, refl, sym, ap, subst, inl, inr, arith, All-more, All-weaker, Less, label_of, label_cmp, Label, Named, label_total, less_unless, not_below, less_from_lt, is_above, StartsAbove, HasLabel, NoneLess, LeastAbove, untried, MovesLeastToFront, IsLeast, Fronts, take_all}
 use Rattle.std.specs.Ordering.{is_lt}
 use Rattle.camp_seq.proofs.LabelsKept.{each_at_front}
 use Rattle.camp_seq.proofs.ListResults.{label-front}
@@ -87,7 +87,7 @@ untried_less tried key (p ∷ s) above (inr held) =
     omega (arith, one_le (is_above (Some key) l) (is_above tried l) (further tried key l above), untried_less tried key s above held)
 
 -- the least label that can be moved to the front, moved there
-pub settles_from : (tried : Option Label) (label : Label) (s : List Named) (y : Named) (t now : List Named) → LeastAbove tried s label → ((other : Label) (z : Named) (u : List Named) → Fronts other s z u → IsTrue (is_above tried other)) → Fronts label s y t → now ≡ y ∷ t → Settles s now
+pub settles_from : (tried : Option Label) (label : Label) (s : List Named) (y : Named) (t now : List Named) → LeastAbove tried s label → ((other : Label) (z : Named) (u : List Named) → Fronts other s z u → IsTrue (is_above tried other)) → Fronts label s y t → now ≡ y ∷ t → MovesLeastToFront s now
 settles_from tried label s y t now least above w is =
     let labelled = label-front label s y t w in
     let is_least : IsLeast label s = λ other z u f. fronts_none_less tried label other s z u least.least f (above other z u f) in

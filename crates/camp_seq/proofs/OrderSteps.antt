@@ -1,5 +1,5 @@
 -- Sorts a list into normal order, one element after the other.
-use Rattle.camp_seq.proofs.Words.{◌≡◌, ℕ, ◌+◌, ◌-◌, ◌<◌, List, [], ◌∷◌, ◌++◌, length, take, drop, sym, ap, ◌∙◌, subst, arith, append-nil, append_assoc, length-drop, length_push, length-take-le, take_at, drop_at, drop_all, put_mid, Named, Settles, Norm}
+use Rattle.camp_seq.proofs.Words.{◌≡◌, ℕ, ◌+◌, ◌-◌, ◌<◌, List, [], ◌∷◌, ◌++◌, length, take, drop, sym, ap, ◌∙◌, subst, arith, append-nil, append_assoc, length-drop, length_push, length-take-le, take_at, drop_at, drop_all, put_mid, Named, MovesLeastToFront, Norm}
 
 -- the list after its elements from n on are written
 pub rest_written : {X : Type 0} (xs ys : List X) (n : ℕ) → put_mid n (length xs - n) xs ys ≡ take n xs ++ ys
@@ -8,7 +8,7 @@ rest_written xs ys n =
     ap (λ x. take n xs ++ (ys ++ x)) none ∙ ap (λ x. take n xs ++ x) (append-nil ys)
 
 -- the list with the next element inserted
-pub order_more : (s0 items part now xs : List Named) (at : ℕ) → at < length items → part ≡ drop at items → Settles part now → xs ≡ take at items ++ now → ((t : List Named) → Norm (drop at items) t → Norm s0 (take at items ++ t)) → (t : List Named) → Norm (drop (at + 1) xs) t → Norm s0 (take (at + 1) xs ++ t)
+pub order_more : (s0 items part now xs : List Named) (at : ℕ) → at < length items → part ≡ drop at items → MovesLeastToFront part now → xs ≡ take at items ++ now → ((t : List Named) → Norm (drop at items) t → Norm s0 (take at items ++ t)) → (t : List Named) → Norm (drop (at + 1) xs) t → Norm s0 (take (at + 1) xs ++ t)
 order_more s0 items part now xs at within part_is w xs_is ordered t n =
     let front : List Named = take at items in
     let joined : xs ≡ (front ++ w.first ∷ []) ++ w.rest = xs_is ∙ ap (λ x. front ++ x) w.is ∙ sym (append_assoc front (w.first ∷ []) w.rest) in

@@ -1,11 +1,11 @@
 -- Lists that are their own normal order: those in which no two neighbours commute, and those in which each element
 -- stays after the ones before it.
-use Rattle.camp_seq.proofs.Words.{◌≡◌, ◌≢◌, IsTrue, Option, None, Some, ℕ, zero, suc, ◌+◌, ◌-◌, ◌<◌, ◌≤◌, List, [], ◌∷◌, ◌++◌, length, take, drop, get_or, append-nil, take_more, arith, ap, ◌∙◌, refl, sym, subst, inl, inr, ◌⊎◌, Less, label_of, label_cmp, Commute, Label, Named, not_above, not_below, not_below_both, Chain, StaysBefore, IsHeld, Precedes, IsLeast, Norm, Fronts}
+use Rattle.camp_seq.proofs.Words.{◌≡◌, ◌≢◌, IsTrue, Option, None, Some, ℕ, zero, suc, ◌+◌, ◌-◌, ◌<◌, ◌≤◌, List, [], ◌∷◌, ◌++◌, length, take, drop, get_or, append-nil, take_more, arith, ap, ◌∙◌, refl, sym, subst, inl, inr, ◌⊎◌, Less, label_of, label_cmp, Commute, Label, Named, not_above, not_below, not_below_both, Chain, IsBlockedByFirst, IsBlockedByAll, CommutesBeforeAll, IsLeast, Norm, Fronts}
 use Rattle.std.specs.List.{AllByRecursion}
 use Rattle.std.specs.Prelude.{IfSome, is_some}
 use Rattle.camp_seq.specs.Chains.{CanCommute}
 use Rattle.camp_seq.proofs.PassingSteps.{all_hold}
-use Rattle.camp_seq.specs.Inside.NextInOrder.{IsInOrder, NoneAbove, StaysLast}
+use Rattle.camp_seq.specs.Inside.NextInOrder.{IsInOrder, NoneAbove, StaysInOrder}
 
 -- in a list in which no two neighbours commute only the first element can be moved to the front
 pub front_of_chain : (label : Label) (p : Named) (s : List Named) (y : Named) (t : List Named) → Chain (p ∷ s) → Fronts label (p ∷ s) y t → (label_of p ≡ label) × (y ≡ p) × (t ≡ s)
@@ -17,7 +17,7 @@ front_of_chain label p (q ∷ s) y t c (inr w) =
     absurd (c.0 (y, (a.1, subst (λ z. Commute p z y a.1) rest.1 a.4)))
 
 -- an element that commutes with the next one
-pub no_chain : (s : List Named) (i : ℕ) (p : Named) (t : List Named) → drop i s ≡ p ∷ t → ¬ (StaysBefore p t) → ¬ (Chain s)
+pub no_chain : (s : List Named) (i : ℕ) (p : Named) (t : List Named) → drop i s ≡ p ∷ t → ¬ (IsBlockedByFirst p t) → ¬ (Chain s)
 no_chain [] zero p t is moves c = cc
 no_chain [] (suc i) p t is moves c = cc
 no_chain (q ∷ s) zero p t is moves c = moves (subst Chain is c).0
@@ -30,7 +30,7 @@ chain_is_ordered (p ∷ s) c =
     (s, inl (refl, refl, refl), least, chain_is_ordered s c.1)
 
 -- an element that can be moved to the front of a list with one more element is the new one or could be moved before
-pub fronts_of_longer : (label : Label) (s : List Named) (x y : Named) (t : List Named) → Fronts label (s ++ x ∷ []) y t → ((u : List Named) × Fronts label s y u) ⊎ ((label_of x ≡ label) × ((u : List Named) × Precedes s x y u))
+pub fronts_of_longer : (label : Label) (s : List Named) (x y : Named) (t : List Named) → Fronts label (s ++ x ∷ []) y t → ((u : List Named) × Fronts label s y u) ⊎ ((label_of x ≡ label) × ((u : List Named) × CommutesBeforeAll s x y u))
 fronts_of_longer label [] x y t (inl f) = inr (f.0, ([], (f.1, refl)))
 fronts_of_longer label [] x y t (inr f) = absurd f.1.3
 fronts_of_longer label (q ∷ s) x y t (inl f) = inl (s, inl (f.0, f.1, refl))
@@ -48,7 +48,7 @@ rest_ordered p s (rest, inr w, least, n) = absurd (w.0 refl)
 
 -- x has no lesser label than any element of the list, or can't be moved in front of any
 abbrev Behind : List Named → Named → Type 0
-Behind s x = NoneAbove (label_of x) s ⊎ IsHeld s [] x
+Behind s x = NoneAbove (label_of x) s ⊎ IsBlockedByAll s [] x
 
 -- appending x to a list that is its own order keeps it so, if no label there is greater or x is blocked by the list
 ordered_with : (s : List Named) (x : Named) → Norm s s → Behind s x → Norm (s ++ x ∷ []) (s ++ x ∷ [])
@@ -59,16 +59,16 @@ ordered_with (p ∷ s) x n b =
       | inl w ↦ first.0 other y w.0 w.1
       | inr w ↦ elim b [
         | inl above ↦ subst (λ l. label_cmp l (label_of p) ≢ Less) w.0 above.0
-        | inr held ↦ absurd (held.0 y w.1.0 (subst (λ l. Precedes (p ∷ l) x y w.1.0) (sym (append-nil s)) w.1.1))
+        | inr held ↦ absurd (held.0 y w.1.0 (subst (λ l. CommutesBeforeAll (p ∷ l) x y w.1.0) (sym (append-nil s)) w.1.1))
       ]
     ] in
     let rest : Behind s x = elim b [ inl above ↦ inl above.1 | inr held ↦ inr held.1 ] in
     (s ++ x ∷ [], inl (refl, refl, refl), least, ordered_with s x first.1 rest)
 
 -- the last element of a list blocks an element that does not commute with it
-held_by_last : (s rest : List Named) (last x : Named) → s ≡ rest ++ last ∷ [] → ¬ (CanCommute last x) → IsHeld s [] x
+held_by_last : (s rest : List Named) (last x : Named) → s ≡ rest ++ last ∷ [] → ¬ (CanCommute last x) → IsBlockedByAll s [] x
 held_by_last s rest last x is stuck =
-    subst (λ l. IsHeld l [] x) (sym is) (all_hold rest last [] x x [] (refl, refl) (λ q p w. stuck (q, (p, w))))
+    subst (λ l. IsBlockedByAll l [] x) (sym is) (all_hold rest last [] x x [] (refl, refl) (λ q p w. stuck (q, (p, w))))
 
 -- a label that is not less than the greatest
 above_all : (g label : Label) (s : List Named) → label_cmp label g ≢ Less → NoneAbove g s → NoneAbove label s
@@ -81,7 +81,7 @@ and_last P [] p all one = (one, tt)
 and_last P (q ∷ s) p all one = (all.0, and_last P s p all.1 one)
 
 -- a list in order followed by an element that stays after it is in order
-more_in_order : (s rest : List Named) (last x : Named) (greatest more : Label) → s ≡ rest ++ last ∷ [] → IsInOrder s greatest → StaysLast greatest last x more → IsInOrder (s ++ x ∷ []) more
+more_in_order : (s rest : List Named) (last x : Named) (greatest more : Label) → s ≡ rest ++ last ∷ [] → IsInOrder s greatest → StaysInOrder greatest last x more → IsInOrder (s ++ x ∷ []) more
 more_in_order s rest last x greatest more is in_order (inl w) =
     let above = above_all greatest (label_of x) s w.0 in_order.above in
     subst (IsInOrder (s ++ x ∷ [])) (sym w.1) (record {
@@ -101,7 +101,7 @@ first_in_order (p ∷ s) x long is =
     subst (λ y. IsInOrder (p ∷ []) (label_of y)) (sym is) (record { ordered = chain_is_ordered (p ∷ []) (tt, tt); above = (not_below (label_of p) (label_of p) refl, tt) })
 
 -- and goes through the others one by one
-pub next_in_order : (s : List Named) (at : ℕ) (last x : Named) (greatest more : Label) → 1 ≤ at → at < length s → last ≡ get_or s (at - 1) last → x ≡ get_or s at x → IsInOrder (take at s) greatest → StaysLast greatest last x more → IsInOrder (take (at + 1) s) more
+pub next_in_order : (s : List Named) (at : ℕ) (last x : Named) (greatest more : Label) → 1 ≤ at → at < length s → last ≡ get_or s (at - 1) last → x ≡ get_or s at x → IsInOrder (take at s) greatest → StaysInOrder greatest last x more → IsInOrder (take (at + 1) s) more
 next_in_order s at last x greatest more from within is next in_order stays =
     let i = at - 1 in
     let e : at ≡ i + 1 = omega arith in
@@ -110,7 +110,7 @@ next_in_order s at last x greatest more from within is next in_order stays =
     subst (λ l. IsInOrder l more) (sym whole) (more_in_order (take at s) (take i s) last x greatest more front in_order stays)
 
 -- the list and one more element that the check has found to stay after it
-pub one_more_told : {A : Type 0} (label : A → Label) (s rest : List Named) (last x : Named) (greatest : Label) (more : Option A) → s ≡ rest ++ last ∷ [] → IsInOrder s greatest → IfSome more (λ y. StaysLast greatest last x (label y)) → IsTrue (is_some more) → Norm (s ++ x ∷ []) (s ++ x ∷ [])
+pub one_more_told : {A : Type 0} (label : A → Label) (s rest : List Named) (last x : Named) (greatest : Label) (more : Option A) → s ≡ rest ++ last ∷ [] → IsInOrder s greatest → IfSome more (λ y. StaysInOrder greatest last x (label y)) → IsTrue (is_some more) → Norm (s ++ x ∷ []) (s ++ x ∷ [])
 one_more_told label s rest last x greatest None is in_order stays never = cc
 one_more_told label s rest last x greatest (Some more) is in_order stays holds =
     (more_in_order s rest last x greatest (label more) is in_order stays).ordered

@@ -1,6 +1,6 @@
 -- Inserts an element at its position among the following ones, one neighbour at a time.
-use Rattle.camp_seq.proofs.Words.{◌≡◌, ◌≢◌, ℕ, ◌+◌, ◌-◌, List, [], ◌∷◌, ◌++◌, length, take, drop, refl, sym, ap, ◌∙◌, subst, inl, inr, arith, append_assoc, length-append, length-take-le, length-drop, take_at, drop_at, take-append-drop, Less, label_of, label_cmp, Named, ◌~◌, backwards, through, IsHeld, ComesUpTo, HasRoom, Label, IsLeast, Norm, Passes, Fronts}
-use Rattle.camp_seq.specs.Inside.FirstInOrder.{ComesIn, GoesIn}
+use Rattle.camp_seq.proofs.Words.{◌≡◌, ◌≢◌, ℕ, ◌+◌, ◌-◌, List, [], ◌∷◌, ◌++◌, length, take, drop, refl, sym, ap, ◌∙◌, subst, inl, inr, arith, append_assoc, length-append, length-take-le, length-drop, take_at, drop_at, take-append-drop, Less, label_of, label_cmp, Named, ◌~◌, backwards, through, IsBlockedByAll, CommutedLeftTo, HasRoom, Label, IsLeast, Norm, Passes, Fronts}
+use Rattle.camp_seq.specs.Inside.FirstInOrder.{CommutedLeftInOrder, CommutedRightInOrder}
 use Rattle.camp_seq.proofs.EquivalentLists.{comes_first, passes_alike, room_of_rest}
 use Rattle.camp_seq.proofs.FirstOrders.{own_behind, own_with_room}
 use Rattle.camp_seq.proofs.ListEquivalence.{before, behind, equal_are, fronted, ordered, passed}
@@ -44,7 +44,7 @@ own_before x (q ∷ s) s' x' room m own =
 
 -- if a b and t are their own normal order, t is equivalent to b x, and x is blocked there, then a t is its own normal
 -- order
-own_held : (a b : List Named) (x : Named) (t : List Named) → HasRoom (a ++ t) → t ~ (b ++ x ∷ []) → Norm (a ++ b) (a ++ b) → IsHeld a b x → Norm t t → Norm (a ++ t) (a ++ t)
+own_held : (a b : List Named) (x : Named) (t : List Named) → HasRoom (a ++ t) → t ~ (b ++ x ∷ []) → Norm (a ++ b) (a ++ b) → IsBlockedByAll a b x → Norm t t → Norm (a ++ t) (a ++ t)
 own_held [] b x t room e own held n = n
 own_held (y ∷ a) b x t room e own held n =
     let first = rest_ordered y (a ++ b) own in
@@ -67,7 +67,7 @@ pub own_order : (s t : List Named) → HasRoom s → Norm s t → Norm t t
 own_order s t room n = own_with_room s t (room_of_equivalent s t (ordered s t n) room) n
 
 -- an element that was moved forward in a list that is its own normal order
-module _ (s0 s : List Named) (x0 x : Named) (from : ℕ) (room : HasRoom (s0 ++ x0 ∷ [])) (own : Norm s0 s0) (w : ComesUpTo s0 x0 from s x) where
+module _ (s0 s : List Named) (x0 x : Named) (from : ℕ) (room : HasRoom (s0 ++ x0 ∷ [])) (own : Norm s0 s0) (w : CommutedLeftTo s0 x0 from s x) where
   back : Passes x (drop from s) (drop from s0) x0
   back = precedes_back (drop from s0) x0 x (drop from s) w.came
 
@@ -92,7 +92,7 @@ module _ (s0 s : List Named) (x0 x : Named) (from : ℕ) (room : HasRoom (s0 ++ 
       norm_of_equivalent _ _ room all (own_held (take from s0) (drop from s0) x0 t (room_of_equivalent _ _ all room) there whole w.held (own_order _ t room_there n))
 
   -- it is inserted at the first position where it stays before the rest
-  pub comes_in : (part left now : List Named) (at : ℕ) (y : Named) → part ≡ drop from s → GoesIn part x at left y → ((t : List Named) (p : Named) → Passes x part t p → Norm (y ∷ drop at part) (y ∷ drop at part)) → now ≡ take from s ++ left → ComesIn s0 x0 (from + at) now y
+  pub comes_in : (part left now : List Named) (at : ℕ) (y : Named) → part ≡ drop from s → CommutedRightInOrder part x at left y → ((t : List Named) (p : Named) → Passes x part t p → Norm (y ∷ drop at part) (y ∷ drop at part)) → now ≡ take from s ++ left → CommutedLeftInOrder s0 x0 (from + at) now y
   comes_in part left now at y is go stays now_is =
       let long : length (take from s) ≡ from = length-take-le from s (omega (arith, w.bound, w.long)) in
       let order = go.ordered (y ∷ drop at part) (stays (drop from s0) x0 (subst (λ l. Passes x l (drop from s0) x0) (sym is) back)) in
@@ -105,7 +105,7 @@ module _ (s0 s : List Named) (x0 x : Named) (from : ℕ) (room : HasRoom (s0 ++ 
       }
 
 -- the elements written from its position on
-pub placed_there : (s s0 left items part new : List Named) (x0 x : Named) (at : ℕ) → s ≡ s0 ++ x0 ∷ [] → length left ≡ length s0 → ComesIn s0 x0 at left x → items ≡ left ++ x ∷ [] → part ≡ drop at items → new ≡ drop (length part - 1) part ++ take (length part - 1) part → Norm s (take at items ++ new)
+pub placed_there : (s s0 left items part new : List Named) (x0 x : Named) (at : ℕ) → s ≡ s0 ++ x0 ∷ [] → length left ≡ length s0 → CommutedLeftInOrder s0 x0 at left x → items ≡ left ++ x ∷ [] → part ≡ drop at items → new ≡ drop (length part - 1) part ++ take (length part - 1) part → Norm s (take at items ++ new)
 placed_there s s0 left items part new x0 x at was same w is part_is new_is =
     let cut : left ≡ take at left ++ drop at left = sym (take-append-drop at left) in
     let whole : items ≡ take at left ++ (drop at left ++ x ∷ []) = is ∙ ap (λ y. y ++ x ∷ []) cut ∙ append_assoc (take at left) (drop at left) (x ∷ []) in

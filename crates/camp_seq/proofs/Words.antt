@@ -1,5 +1,5 @@
 -- The words that most proofs about lists use.
-pub use Rattle.camp_seq.specs.Chains.{Chain, StaysBefore}
+pub use Rattle.camp_seq.specs.Chains.{Chain, IsBlockedByFirst}
 pub use Rattle.camp_prim.proofs.Inverses.{inverse_of-inverse_of, leads_back}
 pub use Rattle.camp_base.specs.Answers.{Answers, AnswersByTrial, FindsPair}
 pub use borrow.Rule.Slice.PartMut.{put_mid}
@@ -12,12 +12,12 @@ pub use Rattle.camp_prim.proofs.CommuteDecided.{Decided, decided_by, same_or_not
 pub use Rattle.std.proofs.lemmas.List.Elements.{All-cons, All-drop, All-head, All-more, All-nil, All-same, All-tail, All-take, All-weaker, Contains-append_right, Contains-get_or}
 pub use Rattle.std.specs.Bool.{then_some}
 pub use Rattle.camp_prim.proofs.CommuteLaws.{effect, own_inverse, square}
-pub use Rattle.camp_seq.specs.Inside.InPlace.{ComesUpTo, FirstPasses, FirstWith, IsHeld, Lacks, PartsFrom, Precedes}
+pub use Rattle.camp_seq.specs.Inside.InPlace.{CommutedLeftTo, FirstPasses, FirstWithLabel, IsBlockedByAll, LacksLabel, PartsFrom, CommutesBeforeAll}
 pub use Rattle.camp_prim.proofs.CommuteUnique.{swap_unique}
 pub use Rattle.std.specs.List.{All}
 pub use Rattle.std.specs.Prelude.{◌↔◌}
 pub use Rattle.camp_prim.specs.Effect.{Applies, InRange, inverse_of}
-pub use Rattle.camp_seq.specs.Inside.LeastLabels.{HasLabel, LeastAbove, NoneLess, Settles, StartsAbove, is_above, untried}
+pub use Rattle.camp_seq.specs.Inside.LeastLabels.{HasLabel, LeastAbove, NoneLess, MovesLeastToFront, StartsAbove, is_above, untried}
 pub use Rattle.camp_seq.specs.Laws.{AreDetermined, AreEquivalent, EquivalentRun, HasNormalOrder, InverseOfListLeadsBack, MergeCloses, MergeIsEquivalent, MergeIsPassing, MergeIsSymmetric, SplitByLabels}
 pub use Rattle.camp_prim.specs.Labels.{key_of, label_cmp, label_of}
 pub use Rattle.std.specs.declared.cmp.Ordering.TheVariants.{Less}

@@ -8,11 +8,11 @@ abbrev pub CanCommute : Named → Named → Type 0
 CanCommute p q = (q' : Named) × ((p' : Named) × Commute p q q' p')
 
 -- p does not commute with the first element of the list after it, or that list is empty
-abbrev pub StaysBefore : Named → List Named → Type 0
-StaysBefore p [] = Unit {0}
-StaysBefore p (q ∷ s) = ¬ (CanCommute p q)
+abbrev pub IsBlockedByFirst : Named → List Named → Type 0
+IsBlockedByFirst p [] = Unit {0}
+IsBlockedByFirst p (q ∷ s) = ¬ (CanCommute p q)
 
 -- no element commutes with the one after it
 abbrev pub Chain : List Named → Type 0
 Chain [] = Unit {0}
-Chain (p ∷ s) = StaysBefore p s × Chain s
+Chain (p ∷ s) = IsBlockedByFirst p s × Chain s

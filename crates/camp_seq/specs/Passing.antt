@@ -29,7 +29,7 @@ Fronts label (p ∷ s) y t =
     ⊎ ((label_of p ≢ label) × ((found : Named) × (p' : Named) × (u : List Named)
     × Fronts label s found u × Commute p found y p' × (t ≡ p' ∷ u)))
 
--- s ~ f t: the elements with these labels are commuted to before the others, in their order
+-- s ~ f t: f has the elements with these labels, commuted to the front, and t the others; both keep their order
 abbrev pub Parts : List Label → List Named → List Named → List Named → Type 0
 Parts labels [] f t = (f ≡ []) × (t ≡ [])
 Parts labels (p ∷ s) f t =

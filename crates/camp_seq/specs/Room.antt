@@ -21,8 +21,8 @@ pub data Reaches : List Named → List Named → Type 0 where
 abbrev pub HasRoom : List Named → Type 0
 HasRoom s = (t : List Named) → Reaches s t → All (λ p. InRange p.prim) t
 
--- the law of three, with headroom: if p and q commute, the six orders of p q r exist in two cases: r commutes past q
--- and then past p, or p commutes past q and then past r, and q past r
+-- the law of three, with headroom: if p and q commute, then p q r can be put in all six orders if r commutes past q and
+-- then past p, or if p commutes past q and then past r, and q commutes past r
 pub record LawOfThree : Type 0 where
   pub from_behind : (p q r q' p' r1 q1 y p1 : Named) → HasRoom (p ∷ q ∷ r ∷ [])
       → Commute p q q' p' → Commute q r r1 q1 → Commute p r1 y p1

@@ -1,6 +1,6 @@
 //! Chains: lists in which no two neighbours commute.
 ghost use Rattle.std.specs.Prelude.{◌↔◌, IsTrue};
-ghost use Rattle.camp_seq.specs.Chains.{CanCommute, Chain, StaysBefore};
+ghost use Rattle.camp_seq.specs.Chains.{CanCommute, Chain, IsBlockedByFirst};
 
 use camp_prim::{Named, commutes};
 
@@ -9,7 +9,7 @@ pub fn is_chain(items: &[Named]) -> bool
     ensures exact { IsTrue result ↔ Chain items.now }
 {
     for at in (0..items.len()).rev() {
-        if !stays_before(&items[at], &items[at + 1..]) {
+        if !is_blocked_by_first(&items[at], &items[at + 1..]) {
             return false;
         }
     }
@@ -24,8 +24,8 @@ pub fn can_commute(p: &Named, q: &Named) -> bool
 }
 
 /// True if `p` does not commute with the first element of the list after it, or that list is empty.
-fn stays_before(p: &Named, s: &[Named]) -> bool
-    ensures { IsTrue result ↔ StaysBefore p.now s.now }
+fn is_blocked_by_first(p: &Named, s: &[Named]) -> bool
+    ensures { IsTrue result ↔ IsBlockedByFirst p.now s.now }
 {
     match s.first() {
         None => true,

@@ -11,6 +11,6 @@
 mod insertions;
 mod looks;
 
-pub(crate) use insertions::{go_in, order_by_insertion};
-pub(crate) use looks::{is_stopped, stays_first};
+pub(crate) use insertions::{commute_right_in_order, order_by_insertion};
+pub(crate) use looks::{is_blocked_by_head, stays_first};
 pub use looks::{are_own_orders, are_own_orders_of_chain, is_own_order, stays_past};

@@ -5,7 +5,7 @@ ghost use Rattle.camp_seq.specs.Merging.{CleanMerge};
 ghost use Rattle.camp_seq.specs.Running.{inverse_all};
 
 use crate::Seq;
-use crate::passes::change_places;
+use crate::passes::commute_past_all;
 use std::alloc::AllocError;
 
 /// Returns the inverse of a list: the inverses of its primitives, in reverse order.
@@ -30,7 +30,7 @@ pub fn clean_merge(a: &Seq, b: &Seq) -> Result<Option<(Seq, Seq)>, AllocError>
 {
     let mut back = invert_all(a)?;
     let mut after = b.try_clone()?;
-    if !change_places(&mut back, &mut after) {
+    if !commute_past_all(&mut back, &mut after) {
         return Ok(None);
     }
     let beside = invert_all(&back)?;

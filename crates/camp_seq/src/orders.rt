@@ -4,16 +4,16 @@ ghost use Rattle.std.specs.Ordering.{is_lt};
 ghost use Rattle.std.specs.declared.cmp.Ordering.TheVariants.{Less};
 ghost use Rattle.camp_prim.specs.declared.named.Named.{Named};
 ghost use Rattle.camp_prim.specs.Labels.{label_cmp};
-ghost use Rattle.camp_seq.specs.Inside.FirstInOrder.{GoesIn, OrderedFrom};
-ghost use Rattle.camp_seq.specs.Inside.LeastLabels.{is_above, LeastAbove, Settles, StartsAbove};
+ghost use Rattle.camp_seq.specs.Inside.FirstInOrder.{CommutedRightInOrder, OrderedFrom};
+ghost use Rattle.camp_seq.specs.Inside.LeastLabels.{is_above, LeastAbove, MovesLeastToFront, StartsAbove};
 ghost use Rattle.camp_seq.specs.Equivalence.{◌~◌};
 ghost use Rattle.camp_seq.specs.NormalOrder.{Norm};
 ghost use Rattle.camp_seq.specs.Room.{HasRoom};
 
 use crate::Seq;
-use crate::fast::{go_in, is_own_order, order_by_insertion, stays_first};
-use crate::fronts::bring;
-use crate::rooms::surely_has_room;
+use crate::fast::{commute_right_in_order, is_own_order, order_by_insertion, stays_first};
+use crate::fronts::move_to_front;
+use crate::rooms::has_small_reach;
 use camp_prim::{Label, Named};
 use std::alloc::AllocError;
 
@@ -66,34 +66,34 @@ fn put_before(mut a: Named, s: &mut Seq) -> Result<bool, AllocError>
     ensures order { IfOk result (λ told. Norm (a ∷ s.old) s.new) }
     ensures own { IfOk result (λ told. IsTrue told → Norm s.new s.new) }
 {
-    let (at, stays) = find_first_place(&mut a, &mut s.items);
+    let (at, stays) = insert_first(&mut a, &mut s.items);
     s.items.insert(at, a)?;
-    settle_from(&mut s.items, at, stays);
-    Ok(surely_has_room(&s.items))
+    order_from(&mut s.items, at, stays);
+    Ok(has_small_reach(&s.items))
 }
 
 /// Commutes `a`, which comes before `s`, to its position in normal order. Returns the index of that position, and
 /// whether no element after it can be moved in front of `a`.
-fn find_first_place(a: &mut Named, s: &mut [Named]) -> (usize, bool)
+fn insert_first(a: &mut Named, s: &mut [Named]) -> (usize, bool)
     requires { Norm s.old s.old }
-    ensures place { GoesIn s.old a.old result.0 s.new a.new }
+    ensures place { CommutedRightInOrder s.old a.old result.0 s.new a.new }
     ensures stays { IsTrue result.1 → Norm (a.new ∷ drop result.0 s.old) (a.new ∷ drop result.0 s.old) }
 {
-    let at = go_in(a, s);
+    let at = commute_right_in_order(a, s);
     let (_, rest) = s.split_at_mut(at);
     let stays = stays_first(a, rest);
     (at, stays)
 }
 
 /// Puts the elements from index `at` on in normal order, unless the caller knows that they are.
-fn settle_from(items: &mut [Named], at: usize, known: bool)
+fn order_from(items: &mut [Named], at: usize, known: bool)
     requires { at ≤ length items.old }
     ensures { OrderedFrom items.old at known items.new }
 {
     if known {
         return;
     }
-    order_anew(&mut items[at..]);
+    order_unordered(&mut items[at..]);
 }
 
 /// Puts a list in normal order, in place; does not allocate. True only if the result is its own normal order.
@@ -107,15 +107,15 @@ pub(crate) fn order(items: &mut [Named]) -> bool
     if is_own_order(items) {
         return true;
     }
-    order_anew(items);
-    surely_has_room(items)
+    order_unordered(items);
+    has_small_reach(items)
 }
 
 /// Orders a list that the quick check did not find in normal order.
-fn order_anew(items: &mut [Named])
+fn order_unordered(items: &mut [Named])
     ensures { Norm items.old items.new }
 {
-    if surely_has_room(items) {
+    if has_small_reach(items) {
         order_by_insertion(items);
     } else {
         order_by_selection(items);
@@ -131,20 +131,20 @@ fn order_by_selection(items: &mut [Named])
     ensures { Norm items.old items.new }
 {
     for at in 0..items.len() {
-        settle(&mut items[at..]);
+        move_least_to_front(&mut items[at..]);
     }
 }
 
 /// Moves to the front the element with the least label that can be moved there.
 #[tactic(auto, using(crate::proofs::LabelSteps::starts_above))]
-fn settle(items: &mut [Named])
+fn move_least_to_front(items: &mut [Named])
     requires { 0 < length items.old }
-    ensures { Settles items.old items.new }
+    ensures { MovesLeastToFront items.old items.new }
 {
     let mut tried = None;
     loop {
         let label = least_above(items, &tried);
-        if bring(items, &label) {
+        if move_to_front(items, &label) {
             return;
         }
         tried = Some(label);

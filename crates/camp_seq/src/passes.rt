@@ -2,11 +2,11 @@
 ghost use Rattle.std.specs.Prelude.{IfOk};
 ghost use Rattle.std.specs.Bool.{then_some};
 ghost use Rattle.camp_base.specs.Answers.{Changes, FindsPair};
-ghost use Rattle.camp_seq.specs.Inside.InPlace.{ComesUpTo, GoesPast, PassesInPlace, PrecedesInPlace};
+ghost use Rattle.camp_seq.specs.Inside.InPlace.{CommutedLeftTo, CommutedRightTo, PassesInPlace, CommutesBeforeAllInPlace};
 ghost use Rattle.camp_seq.specs.Passing.{Passes, PassesAll, PassesWithLast};
 
 use crate::Seq;
-use crate::fast::is_stopped;
+use crate::fast::is_blocked_by_head;
 use camp_prim::{Named, commute_in_place};
 use std::alloc::AllocError;
 
@@ -15,7 +15,7 @@ use std::alloc::AllocError;
 pub fn past(p: &Named, s: &Seq) -> Result<Option<(Seq, Named)>, AllocError>
     ensures exact { IfOk result (FindsPair (Passes p.now s.now)) }
 {
-    if is_stopped(p, &s.items) {
+    if is_blocked_by_head(p, &s.items) {
         return Ok(None);
     }
     let mut before = s.try_clone()?;
@@ -33,14 +33,14 @@ pub fn past_all(r: &Seq, s: &Seq) -> Result<Option<(Seq, Seq)>, AllocError>
 {
     let mut before = s.try_clone()?;
     let mut behind = r.try_clone()?;
-    if !change_places(&mut behind, &mut before) {
+    if !commute_past_all(&mut behind, &mut before) {
         return Ok(None);
     }
     Ok(Some((before, behind)))
 }
 
 /// Commutes all of `r` past `s`, in place. False if one cannot pass; both lists are then partly commuted.
-pub(crate) fn change_places(r: &mut Seq, s: &mut Seq) -> bool
+pub(crate) fn commute_past_all(r: &mut Seq, s: &mut Seq) -> bool
     ensures exact { FindsPair (PassesAll r.old s.old) (then_some result (s.new, r.new)) }
 {
     pass_all(&mut r.items, &mut s.items)
@@ -63,7 +63,7 @@ fn pass_all(r: &mut [Named], s: &mut [Named]) -> bool
 pub(crate) fn pass(p: &mut Named, s: &mut [Named]) -> bool
     ensures exact { FindsPair (Passes p.old s.old) (then_some result (s.new, p.new)) }
 {
-    let at = go_past(p, s);
+    let at = commute_right(p, s);
     at == s.len()
 }
 
@@ -82,7 +82,7 @@ fn pass_with_last(p: &mut Named, s: &mut [Named], last: &mut Named) -> bool
         return false;
     }
     if !commute_in_place(p, last) {
-        precede(s, p);
+        commute_before_all(s, p);
         return false;
     }
     true
@@ -92,9 +92,9 @@ fn pass_with_last(p: &mut Named, s: &mut [Named], last: &mut Named) -> bool
 fn pass_or_stay(p: &mut Named, s: &mut [Named]) -> bool
     ensures exact { Changes PassesInPlace (p.old, s.old) result (p.new, s.new) }
 {
-    let at = go_past(p, s);
+    let at = commute_right(p, s);
     if at < s.len() {
-        precede(&mut s[..at], p);
+        commute_before_all(&mut s[..at], p);
         return false;
     }
     true
@@ -102,8 +102,8 @@ fn pass_or_stay(p: &mut Named, s: &mut [Named]) -> bool
 
 /// Commutes `p`, which comes before `s`, as far to the right as it can be moved, in place. Returns the number of
 /// elements of `s` that then come before `p`.
-fn go_past(p: &mut Named, s: &mut [Named]) -> usize
-    ensures { GoesPast s.old p.old result s.new p.new }
+fn commute_right(p: &mut Named, s: &mut [Named]) -> usize
+    ensures { CommutedRightTo s.old p.old result s.new p.new }
 {
     for at in 0..s.len() {
         if !commute_in_place(p, &mut s[at]) {
@@ -115,10 +115,10 @@ fn go_past(p: &mut Named, s: &mut [Named]) -> usize
 
 /// Commutes `p`, which comes after `s`, past all of it to the left, in place. False if it cannot be moved there; both
 /// are then unchanged.
-pub(crate) fn precede(s: &mut [Named], p: &mut Named) -> bool
-    ensures exact { Changes PrecedesInPlace (s.old, p.old) result (s.new, p.new) }
+pub(crate) fn commute_before_all(s: &mut [Named], p: &mut Named) -> bool
+    ensures exact { Changes CommutesBeforeAllInPlace (s.old, p.old) result (s.new, p.new) }
 {
-    let at = come_forward(s, p);
+    let at = commute_left(s, p);
     if at > 0 {
         pass(p, &mut s[at..]);
         return false;
@@ -129,8 +129,8 @@ pub(crate) fn precede(s: &mut [Named], p: &mut Named) -> bool
 /// Commutes `p`, which comes after `s`, as far to the left as it can be moved, in place. Returns the number of elements
 /// of `s` that then come before `p`.
 #[tactic(auto, using(crate::proofs::ListSteps::none_done))]
-pub(crate) fn come_forward(s: &mut [Named], p: &mut Named) -> usize
-    ensures { ComesUpTo s.old p.old result s.new p.new }
+pub(crate) fn commute_left(s: &mut [Named], p: &mut Named) -> usize
+    ensures { CommutedLeftTo s.old p.old result s.new p.new }
 {
     for at in (0..s.len()).rev() {
         if !commute_in_place(&mut s[at], p) {

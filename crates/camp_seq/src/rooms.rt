@@ -2,7 +2,7 @@
 ghost use Rattle.std.specs.Prelude.{◌≡◌, ◌<◌, ◌≤◌, ◌+◌, ◌↔◌, [], ◌∷◌, ◌++◌, IsTrue, MatchOption};
 ghost use Rattle.camp_base.specs.Limits.{greatest_reach};
 ghost use Rattle.camp_prim.specs.Effect.{InRange};
-ghost use Rattle.camp_seq.specs.Inside.Reach.{GoesOnTo};
+ghost use Rattle.camp_seq.specs.Inside.Reach.{ReachGrowsTo};
 ghost use Rattle.camp_seq.specs.Room.{HasRoom, HasRoomToMerge, ReachGivesRoom};
 ghost use Rattle.camp_seq.specs.Shapes.{all_sides, line_of, sides_of, reach_of};
 
@@ -25,12 +25,12 @@ pub fn has_room(s: &Seq) -> bool
     ensures exact { IsTrue result ↔ (reach_of s.now ≤ greatest_reach) }
     ensures room { IsTrue result → HasRoom s.now }
 {
-    surely_has_room(&s.items)
+    has_small_reach(&s.items)
 }
 
 /// True only if the greatest line of a list's hunks and the counts of all their lines are together in the range of one
 /// hunk; then no commuting brings a hunk out of range. False decides nothing. Visits each element once.
-pub(crate) fn surely_has_room(items: &[Named]) -> bool
+pub(crate) fn has_small_reach(items: &[Named]) -> bool
     ensures exact { IsTrue result ↔ (reach_of items.now ≤ greatest_reach) }
     ensures room { IsTrue result → HasRoom items.now }
 {
@@ -57,7 +57,7 @@ pub fn has_room_to_merge(s: &[Named], p: &Named, t: &[Named], q: &Named) -> bool
 /// lines; `None` if the count is more than 2^30.
 fn shape_with(items: &[Named], last: &Named) -> Option<(usize, usize)>
     ensures { MatchOption result (greatest_reach < all_sides (items.now ++ last.now ∷ []))
-        (λ shape. GoesOnTo (items.now ++ last.now ∷ []) 0 0 shape.0 shape.1) }
+        (λ shape. ReachGrowsTo (items.now ++ last.now ∷ []) 0 0 shape.0 shape.1) }
 {
     shape_from(items, line_of(&last.prim), sides_of(&last.prim))
 }
@@ -68,7 +68,7 @@ fn shape_from(items: &[Named], line: usize, more: usize) -> Option<(usize, usize
     requires line { line ≤ greatest_reach }
     requires more { more ≤ greatest_reach }
     ensures { MatchOption result (greatest_reach < more + all_sides items.now)
-        (λ shape. GoesOnTo items.now line more shape.0 shape.1) }
+        (λ shape. ReachGrowsTo items.now line more shape.0 shape.1) }
 {
     let mut greatest = line;
     let mut sides = more;

@@ -152,8 +152,8 @@ impl<T: Share + Drop> Change<T> {
     }
 }
 
-// Returns an equivalent position: the end of the chunk before instead of the start of a chunk, if the chunk before has
-// room for another element.
+// Returns the same position in another form if it is the start of a chunk and the chunk before has room for another
+// element: the end of the chunk before.
 fn behind_with_room<T>(parts: &Growing<Part<T>>, index: usize, place: usize) -> (usize, usize)
     requires parts { All IsPart parts.now }
     requires place { IsPlace parts.now index place }

@@ -179,8 +179,8 @@ impl<T: Share + Drop> Growing<T> {
     }
 
     // Seals the tail if other chunks are sealed. The elements stay the same; a copy of the list then increments one
-    // reference count for the tail instead of one for each element. A list without sealed chunks is short: a vector of
-    // chunks would cost more than it saves. Only tests can observe whether this is called.
+    // reference count for the tail instead of one for each element. A list without sealed chunks is short: making a
+    // vector of chunks for it would cost more than it saves. No contract depends on whether this is called.
     pub(crate) fn settle(&mut self) -> Result<(), AllocError>
         ensures { OnOk result (self.new ≡ self.old) }
     {

@@ -17,8 +17,8 @@ use Rattle.camp_shared.specs.declared.faults.AskFault.TheVariants.{Memory, NoCal
 use Rattle.camp_shared.specs.declared.wanting.TextWant.{TextWant}
 use Rattle.camp_shared.specs.declared.wanting.TextWant.TheVariants as text_want
 
--- a text is asked: it is that of one call after its note, which then waits after the other requests; or nothing has
--- changed
+-- the result of asking with a text. Ok: the text is one call, with or without a note before it, and its request waits
+-- after the others; else nothing has changed
 abbrev pub AsksText : ℕ → List ℕ → ℕ → Sharing → Result (Unit {0}) AskFault → Sharing → Type 0
 AsksText id text at_least old (Ok done) new =
     (call : WithNote Call) × IsNoted call × (noted_text call ≡ text) × (length text ≤ most_bytes_of_calls)
@@ -36,7 +36,7 @@ IsRendered (want.Append entry) (text_want.Append number text) =
     (number ≡ entry.number) × CanBeLogged entry × (text.items ≡ text_of_entry entry)
 IsRendered _ _ = ⊥
 
--- what a member wants of its log, as text; it begins to append only if it has to
+-- what a member wants of its log, as text; a new entry is started only if one is needed
 pub record WantsText (old new : Sharing) (text : TextWant) : Type 0 where
   pub what : Want (WithNote Call)
   pub renders : IsRendered what text

@@ -15,7 +15,7 @@ use Rattle.camp_repo.specs.States.{Contents, new_within}
 use Rattle.camp_shared.specs.Asking.{FindsText}
 use Rattle.camp_shared.specs.Sharing.{Sharing, IsOpenedLog, shared_from}
 
--- these are the entries of the texts, in order: each the one that has the text, or none
+-- the entries of texts, in the same order: for each text the entry that has it, or none
 abbrev pub AreEntriesOf : List (List ℕ) → List (Option (Tagged (WithNote Call))) → Type 0
 AreEntriesOf [] [] = Unit {0}
 AreEntriesOf (text ∷ texts) (found ∷ log) = IsEntryOf text found × AreEntriesOf texts log
@@ -35,7 +35,7 @@ pub record HasReadTexts (title : List ℕ) (texts : List (List ℕ)) (reading : 
 abbrev pub HasTag : ℕ → ℕ → List ℕ → Type 0
 HasTag seat number text = (entry : Tagged (WithNote Call)) × IsEntryOf text (Some entry) × (entry.seat ≡ seat) × (entry.number ≡ number)
 
--- a member that was opened has read the title alone
+-- a newly opened member has read only the title
 abbrev pub OpensAtTitle : Type 0
 OpensAtTitle = (title : List ℕ) (seat : ℕ) (member : Sharing) → IsOpenedLog title seat member → HasReadTexts title [] member.reading
 
@@ -46,13 +46,13 @@ FindsTextsInOrder =
     → HasReadTexts title texts old.reading → FindsText old index text (Ok tt) new
     → ((index ≤ length texts) × (new ≡ old)) ⊎ ((index ≡ length texts + 1) × HasReadTexts title (texts ++ text ∷ []) new.reading)
 
--- after a fault a member has read what it had read before
+-- a fault changes nothing in what a member has read
 abbrev pub KeepsWhatWasRead : Type 0
 KeepsWhatWasRead =
     (title : List ℕ) (texts : List (List ℕ)) (old new : Sharing) (index : ℕ) (text : List ℕ) (fault : ReadFault)
     → HasReadTexts title texts old.reading → FindsText old index text (Err fault) new → HasReadTexts title texts new.reading
 
--- where a text is foreign to a member, no member reads it, nor what comes after it
+-- if a text is foreign to one member, no member reads it or any text after it
 abbrev pub NobodyReadsOn : Type 0
 NobodyReadsOn =
     (title : List ℕ) (texts rest : List (List ℕ)) (text : List ℕ) (found : Option (Tagged (WithNote Call))) (one two : Reading Contents (WithNote Call))
@@ -86,7 +86,8 @@ MembersShareOneHistory =
     → IsBeginning first texts → IsBeginning second texts → HasReadTexts title first one → HasReadTexts title second two
     → IsBeginning one.history two.history ⊎ IsBeginning two.history one.history
 
--- of the calls of its seat the history of a member has those that it answered as accepted, each once, in the order of its requests
+-- the calls of the member's own seat in its history are those that it answered as accepted, each once, in the order of
+-- its requests
 abbrev pub AcceptedAreAnswered : Type 0
 AcceptedAreAnswered =
     (title : List ℕ) (seat : ℕ) (opened now : Sharing) → IsOpenedLog title seat opened

@@ -1,4 +1,4 @@
-//! Why a log was not opened, and why a text was not asked.
+//! Why a log was not opened, and why a request was not queued.
 ghost use Rattle.std.specs.Prelude.{◌≡◌};
 ghost use Rattle.camp_shared.specs.declared.faults.AskFault.TheVariants as asking;
 ghost use Rattle.camp_shared.specs.declared.faults.OpenFault.TheVariants as opening;
@@ -16,15 +16,15 @@ pub enum OpenFault {
     NoTitle,
 }
 
-/// Why a text was not asked. The member is then unchanged.
+/// Why a request was not queued. The member is then unchanged.
 #[derive(Clone, Copy, PartialEq, Eq, Debug, Error)]
 pub enum AskFault {
     #[error("out of memory")]
     Memory,
-    /// It is not the canonical text of one call, with or without a note before it.
+    /// The text is not the canonical text of one call, with or without a note before it.
     #[error("not one call in canonical form")]
     NoCall,
-    /// It has more bytes than an entry has room for.
+    /// The text has more bytes than an entry has room for.
     #[error("a call of more than 1048516 bytes")]
     TooLong,
 }

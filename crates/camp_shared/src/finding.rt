@@ -12,8 +12,8 @@ use std::alloc::Global;
 
 impl SharedRepository {
     /// Reads the text of the entry at an index of the log, in order; the title has index 0. Skips what was read before.
-    /// Answers the requests of the entry under way if it is this one. What is no entry of a member, or is one of
-    /// another process with this seat, stops the member. If memory runs out, the member is unchanged.
+    /// Answers the requests of the entry under way if it is this one. A text that is no entry, or the entry of another
+    /// process with this seat, stops the member. If memory runs out, the member is unchanged.
     pub fn found(&mut self, alloc: Global, index: usize, text: &[u8]) -> Result<(), ReadFault>
         ensures finds { FindsText self.old index text.now result self.new }
         ensures goes { MemberAdvances (shared_from self.old.reading.first) (λ _ _. ⊥) self.old self.new }

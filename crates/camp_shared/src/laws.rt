@@ -10,7 +10,7 @@ pub fn members_follow_the_texts()
     ensures stops { NobodyReadsOn }
 {}
 
-/// Of the texts of a log with one tag the first alone counts, wherever the others stand.
+/// Of several texts with one tag only the first in the log counts, wherever the others are.
 pub fn each_tag_of_texts_counts_once()
     ensures law { SameTagAddsNothing }
 {}
@@ -23,7 +23,7 @@ pub fn members_share_one_history()
     ensures law { MembersShareOneHistory }
 {}
 
-/// Of the calls of its seat the history of a member has those that it answered as accepted, each once.
+/// The calls of the member's own seat in its history are those that it answered as accepted, each once.
 pub fn accepted_calls_are_answered()
     ensures law { AcceptedAreAnswered }
 {}

@@ -14,7 +14,8 @@ use camp_repo::{Reply, State, first_state};
 use std::alloc::{AllocError, Global};
 use std::marker::Model;
 
-/// The most bytes of the calls of an entry with their notes: what its first line leaves of the most bytes of an entry.
+/// The most bytes that the calls of an entry have, with their notes: the most bytes of an entry less those of its first
+/// line.
 pub const MAX_CALL_BYTES: usize = 1_048_516;
 
 /// A member of a log that shares a repository with others: it is given the texts of entries, and returns those to
@@ -88,8 +89,8 @@ impl SharedRepository {
         self.member.take_seat(seat)
     }
 
-    /// Queues a call under a number of the caller's, to be answered when the history has `at_least` accepted calls or
-    /// more: a question or a command in canonical form, after its note if it has one.
+    /// Queues a call under a number that the caller chooses, to be answered when the history has `at_least` accepted
+    /// calls or more: a question or a command in canonical form, after its note if it has one.
     pub fn ask(
         &mut self,
         alloc: Global,

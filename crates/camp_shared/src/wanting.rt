@@ -29,9 +29,9 @@ pub enum TextWant {
 }
 
 impl SharedRepository {
-    /// Answers the first requests that can be answered at what was read, and returns what the member wants of the log.
-    /// A new entry gets the calls of as many of the first requests as fit. An entry under way is wanted unchanged until
-    /// it is found or refused. If memory runs out, the entry under way stays, and so do the answers already given.
+    /// Answers the first requests, as far as what was read allows, and returns what the member wants of the log. A new
+    /// entry gets the calls of as many of the first requests as fit. An entry under way is wanted unchanged until it is
+    /// found or refused. If memory runs out, the entry under way stays, and so do the answers already given.
     pub fn want(&mut self, alloc: Global) -> Result<TextWant, AllocError>
         ensures wants { IfOk result (WantsText self.old self.new) }
         ensures stays { 0 < self.old.sent → self.new ≡ self.old }
@@ -71,7 +71,7 @@ fn fitting(alloc: Global, waiting: &[Request<NotedCall<Call>>]) -> Result<usize,
     Ok(count)
 }
 
-// Returns the number of bytes of a call after its note.
+// Returns the number of bytes of a call together with its note.
 fn noted_len(alloc: Global, noted: &NotedCall<Call>) -> Result<usize, AllocError>
     requires { IsNoted noted.now }
     ensures { IfOk result (λ len. len ≡ length (noted_text noted.now)) }

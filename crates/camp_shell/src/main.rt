@@ -107,7 +107,7 @@ fn talk_in_frames(rt: &HostRuntime, book: Book<State>) -> Result<(), FrameFault>
     talk(&mut FramedConversation::new(rt.alloc(), book, reader, rt.stdout()))
 }
 
-// Returns the wanted form or, if lines are wanted at a terminal, prompts.
+// Returns the form that was asked for; but prompts in place of lines at a terminal.
 fn form_at(rt: &HostRuntime, wished: Form) -> Form {
     match wished {
         Form::Lines if rt.stdin().is_terminal() && rt.stdout().is_terminal() => Form::Prompts,

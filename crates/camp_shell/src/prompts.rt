@@ -29,7 +29,7 @@ impl<R: BufRead, W: Write> Prompted<R, W> {
             alloc,
             book,
             lines: 0,
-            diagnostic: Diagnostic::new(alloc),
+            diagnostic: Diagnostic::new(),
             reader: Prompting::new(alloc, reader, prompts),
             writer,
         }
@@ -67,7 +67,7 @@ enum NextLine {
     End,
 }
 
-/// A reader of lines, each of which a prompt asks for.
+/// A reader of lines that writes a prompt before each line.
 #[derive(Drop)]
 pub(crate) struct Prompting<R, W> {
     reader: R,

@@ -20,7 +20,7 @@ first_digest = replicate 32 0
 abbrev pub digest_after : List ℕ → List ℕ → List ℕ
 digest_after before text = sha256 (before ++ text)
 
--- the digest of texts and these; `before` is the digest of those before them
+-- the digest of a list of texts, given the digest of the texts before it
 abbrev pub chain : List ℕ → List (List ℕ) → List ℕ
 chain before [] = before
 chain before (text ∷ texts) = chain (digest_after before text) texts

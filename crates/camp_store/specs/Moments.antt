@@ -21,7 +21,7 @@ module _ {D : Type 0} (seen : D → List ℕ) (may_leave : D → List ℕ → Ty
   pub record EachMoment (old new : List (List ℕ)) (digest bytes : List ℕ) (at : ℕ) (before : D) : Type 0 where
     -- the bytes after the first mark of the batch are being written and synced
     pub staging : (now : D) → WriteBegun (at + 1) (length bytes - 1) before now → (c : List ℕ) → may_leave now c → DecodesTo old c
-    -- those are durable, and the first mark is being written and synced
+    -- the bytes after the first mark are durable, and that mark is being written and synced
     pub opening : (staged now : D) → WrittenAndSynced (at + 1) (drop 1 bytes) before staged → WriteBegun at 1 staged now
         → (c : List ℕ) → may_leave now c → IsBeforeOrAfter old new c
     -- the first mark is durable too

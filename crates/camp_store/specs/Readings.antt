@@ -48,7 +48,7 @@ IsReadingFault usable (Disk error) = Unit {0}
 IsReadingFault usable Failed = usable ≡ false
 IsReadingFault usable other = IsDecodeFault other
 
--- why the bytes of a usable disk are not returned: memory ran out, or a disk call has failed
+-- why reading a disk that can be used fails: out of memory, or a disk call has failed
 abbrev pub IsAccessFault : StoreFault → Type 0
 IsAccessFault Memory = Unit {0}
 IsAccessFault (Disk error) = Unit {0}

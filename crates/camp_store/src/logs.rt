@@ -57,7 +57,7 @@ impl<D: Disk> Log<D> {
             → (c : List ℕ) → D.Disk.may_leave e.1 c → DecodesTo (texts_of reading.now.texts.items) c) }
         ensures clean { IfOk result (λ log. D.Disk.is_clean (disk_of log) ≡ D.Disk.is_clean disk) }
         ensures clean_err { IfErr result (λ e. D.Disk.is_clean e.1 ≡ D.Disk.is_clean disk) }
-        // The file ends at most with the texts and the mark, unless it was longer before.
+        // The file is not longer than its texts and the mark, unless it was before.
         ensures long { IfOk result (λ log. Only (D.Disk.seen disk) (D.Disk.may_leave disk)
             → StaysWithin D.Disk.seen D.Disk.may_leave (reading.now.length + 1) disk (disk_of log)) }
         ensures long_err { IfErr result (λ e. Only (D.Disk.seen disk) (D.Disk.may_leave disk)

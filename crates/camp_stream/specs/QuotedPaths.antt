@@ -37,7 +37,7 @@ letter_value letter =
 abbrev pub onto_path : ℕ → Option (List ℕ × List ℕ) → Option (List ℕ × List ℕ)
 onto_path byte found = option_map (λ read. (byte ∷ read.0, read.1)) found
 
--- the same, given an optional byte; none if there is no byte
+-- `onto_path`, given an optional byte; none if there is no byte
 abbrev pub onto_path_if : Option ℕ → Option (List ℕ × List ℕ) → Option (List ℕ × List ℕ)
 onto_path_if None found = None
 onto_path_if (Some byte) found = onto_path byte found

@@ -8,8 +8,6 @@ mod path_texts;
 mod quoting;
 mod reading;
 mod rendering;
-#[cfg(test)]
-mod tests;
 mod unquoting;
 mod wanted;
 mod words;

@@ -9,8 +9,8 @@ use Rattle.camp_script.specs.AfterWords.{after_word}
 use Rattle.camp_script.specs.Canonical.{IsChange, IsScriptCall, call_text, change_head}
 use Rattle.camp_script.specs.CommandLines as command
 use Rattle.camp_script.specs.CommandLines.{wanted_after, wanted_lines}
-use Rattle.camp_script.specs.declared.cuts.Wanted.{Wanted}
-use Rattle.camp_script.specs.declared.cuts.Wanted.TheVariants as want
+use Rattle.camp_script.specs.declared.grouping.Expected.{Expected}
+use Rattle.camp_script.specs.declared.grouping.Expected.TheVariants as want
 use Rattle.camp_script.proofs.CanonicalLines.{words_of-joined}
 use Rattle.camp_script.proofs.CommandCuts.{first_takes_by_words, nothing_wanted, wanted_words}
 use Rattle.camp_script.proofs.CalledLines.{body_lines, change_lines, ends_called, first_words_of, head_are, lines_behind, lines_called, record_rest, record_words, regrouped_lines, text_reads, words_called}
@@ -22,7 +22,7 @@ use Rattle.camp_talk.specs.declared.questions.ParsedCommand.TheVariants as parse
 -- ---- what belongs to the first line of a call
 
 -- the lines of a body, if this is wanted in it and that after it
-module _ (want next : Wanted) (more : wants want ≡ true) (after : (line : List ℕ) → wanted_after want line ≡ cond (bytes_eq line (codes "end")) next want) where
+module _ (want next : Expected) (more : wants want ≡ true) (after : (line : List ℕ) → wanted_after want line ≡ cond (bytes_eq line (codes "end")) next want) where
   line_wanted : (line : List ℕ) (others : List (List ℕ)) → wanted_lines want (line ∷ others) ≡ line ∷ wanted_lines (cond (bytes_eq line (codes "end")) next want) others
   line_wanted line others =
       ap (λ b. cond b (line ∷ wanted_lines (wanted_after want line) others) []) more ∙ ap (λ w. line ∷ wanted_lines w others) (after line)

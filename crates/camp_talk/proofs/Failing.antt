@@ -1,5 +1,5 @@
 -- An answer is a failure exactly if its command has a fault, it was refused, or memory ran out.
-use Rattle.camp_talk.proofs.Words.{◌≡◌, inl, inr, ℕ, true, false, List, Option, None, Some, Result, Ok, Err, refl, sym, ap, subst, ◌∙◌, true≢false, Call, LineFault, reply_text, SessionState, AnswersParsed, parsed_command, Entries, reports_failure, ParsedCommand}
+use Rattle.camp_talk.proofs.Words.{◌≡◌, inl, inr, ℕ, Bool, true, false, List, Option, None, Some, Result, Ok, Err, refl, sym, ap, subst, ◌∙◌, true≢false, Call, LineFault, reply_text, SessionState, AnswersParsed, parsed_command, Entries, reports_failure, ParsedCommand}
 use Rattle.std.specs.Prelude.{◌↔◌}
 use Rattle.camp_base.specs.Trees.{Lines}
 use Rattle.camp_call.specs.declared.replies.Refusal.{Refusal}
@@ -12,11 +12,13 @@ use Rattle.camp_questions.specs.declared.annotations.Annotated.TheVariants as an
 use Rattle.camp_questions.specs.declared.marking.Marked.{Marked}
 use Rattle.camp_questions.specs.declared.marking.Marked.TheVariants as marked
 use Rattle.camp_repo.specs.States.{Contents}
+use Rattle.camp_talk.specs.Inside.Responses.{IsFailureOf}
 use Rattle.camp_talk.specs.Laws.{Failed, FailuresAreReported}
-use Rattle.camp_talk.specs.QuestionAnswers.{AnswersQuestionAt, RendersAnswer, annotated_answer, answer_or_refusal, file_answer, marks_answer}
+use Rattle.camp_talk.specs.QuestionAnswers.{AnswersQuestionAt, annotated_answer, file_answer, marks_answer, text_in}
 use Rattle.camp_talk.specs.declared.questions.ParsedCommand.TheVariants as parsed
 use Rattle.camp_talk.specs.declared.questions.Question.{Question}
 use Rattle.camp_talk.specs.declared.questions.Question.TheVariants as question
+use Rattle.camp_talk.specs.declared.responses.Failure.{Failure}
 
 -- a text is a failure exactly if it is that of a refusal
 abbrev Refuses : List ℕ → Type 0
@@ -41,14 +43,6 @@ reply_fails : (answer : Reply) → Refuses (reply_text answer)
 reply_fails (reply.Refused refusal) = refused refusal
 reply_fails other = plain (reply_text other) refl
 
-module _ {A : Type 0} (text_of : A → List ℕ) (none : (answer : A) → reports_failure (text_of answer) ≡ false) where
-  answer_fails : (answer : AnswerOf A) → Refuses (answer_or_refusal text_of answer)
-  answer_fails (Ok answer) = plain (text_of answer) (none answer)
-  answer_fails (Err refusal) = refused refusal
-
-  refusal_fails : (IsAnswer : AnswerOf A → Type 0) (text : List ℕ) → RendersAnswer text_of IsAnswer text → Refuses text
-  refusal_fails IsAnswer text is = subst Refuses (sym is.reports) (answer_fails is.answer)
-
 annotated_plain : (answer : Annotated) → reports_failure (annotated_answer answer) ≡ false
 annotated_plain (annotated.File lines names) = refl
 annotated_plain annotated.NoFile = refl
@@ -61,24 +55,41 @@ file_plain : (lines : Option Lines) → reports_failure (file_answer lines) ≡ 
 file_plain None = refl
 file_plain (Some lines) = refl
 
-question_fails : (history : List (ℕ × Call)) (state : Contents) (q : Question) (text : List ℕ) → AnswersQuestionAt history state q text → Refuses text
-question_fails history state (question.Annotate branch path) text is = refusal_fails _ annotated_plain _ text is
-question_fails history state (question.Marks branch path) text is = refusal_fails _ marks_plain _ text is
-question_fails history state (question.File branch path) text is = refusal_fails _ file_plain _ text is
-question_fails history state question.Branches text is = subst Refuses (sym is) (plain _ refl)
-question_fails history state (question.WhatIf call) text is = subst Refuses (sym is.2) (plain _ refl)
-question_fails history state question.History text is = subst Refuses (sym is) (plain _ refl)
-question_fails history state question.Keep text is = subst Refuses (sym is) (plain _ refl)
-question_fails history state (question.Help topic) text is = subst Refuses (sym is) (plain _ refl)
-question_fails history state other text is = refusal_fails _ (λ answer. refl) _ text is
+-- the text of an answer is no failure
+abbrev fails_in : AnswerOf (List ℕ) → Bool
+fails_in (Ok text) = reports_failure text
+fails_in (Err refusal) = true
+
+module _ (history : List (ℕ × Call)) (state : Contents) where
+  pub question_plain : (q : Question) (text : List ℕ) → AnswersQuestionAt history state q (Ok text) → reports_failure text ≡ false
+  question_plain (question.Annotate branch path) text is = ap reports_failure is.2 ∙ annotated_plain is.0
+  question_plain (question.Marks branch path) text is = ap reports_failure is.2 ∙ marks_plain is.0
+  question_plain (question.File branch path) text is = ap reports_failure is.2 ∙ file_plain is.0
+  question_plain question.Branches text is = ap fails_in is
+  question_plain (question.WhatIf call) text is = ap fails_in is.2
+  question_plain question.History text is = ap fails_in is
+  question_plain question.Keep text is = ap fails_in is
+  question_plain (question.Help topic) text is = ap fails_in is.2 ∙ ap reports_failure is.1.1
+  question_plain other text is = ap reports_failure is.2
+
+  question_fails : (q : Question) (answer : AnswerOf (List ℕ)) → AnswersQuestionAt history state q answer → Refuses (text_in answer)
+  question_fails q (Ok text) is = plain text (question_plain q text is)
+  question_fails q (Err refusal) is = refused refusal
 
 -- the answer to a parsed command
 parsed_fails : (before : SessionState) (a : Result ParsedCommand LineFault) (text : List ℕ) (now : Entries) → AnswersParsed before a text now → (reports_failure text ≡ true) ↔ Failed a text
 parsed_fails before (Err fault) text now reports = (λ e. tt, λ w. ap reports_failure reports.0)
 parsed_fails before (Ok parsed.Nothing) text now reports = (λ e. true≢false (sym e ∙ ap reports_failure reports.0), λ w. absurd w)
 parsed_fails before (Ok (parsed.Call call)) text now reports = subst Refuses (sym reports.reports) (reply_fails reports.reply)
-parsed_fails before (Ok (parsed.Question q)) text now reports = question_fails before.history.calls reports.0.0 q text reports.0.2
-parsed_fails before (Ok parsed.Why) text now reports = (λ e. true≢false (sym e ∙ ap reports_failure reports.0), λ w. absurd w)
+parsed_fails before (Ok (parsed.Question q)) text now ((answer, (state, leads, is), reports), same) =
+    subst Refuses (sym reports) (question_fails before.history.calls state q answer is)
+parsed_fails before (Ok parsed.Why) text now ((lines, reports, is), same) = (λ e. true≢false (sym e ∙ ap reports_failure reports), λ w. absurd w)
+
+-- the answer to a command that was not done is a failure
+pub failure_reported : (before : SessionState) (given : Result ParsedCommand LineFault) (why : Failure) (text : List ℕ) (now : Entries)
+    → AnswersParsed before given text now → IsFailureOf given why text → reports_failure text ≡ true
+failure_reported before (Err fault) why text now reports is = ap reports_failure reports.0
+failure_reported before (Ok request) why text now reports (refusal, because, is) = ap reports_failure is ∙ refused_fails refusal
 
 pub failures_are_reported : FailuresAreReported
 failures_are_reported before command text after answers = elim answers.reports [

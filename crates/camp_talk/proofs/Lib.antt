@@ -8,12 +8,10 @@ pub mod Firsts
 pub mod FrameLemmas
 pub mod GroupLemmas
 pub mod Growing
-pub mod HelpLemmas
 pub mod LineCounts
 pub mod LineReads
 pub mod Loading
 pub mod LoadingKept
-pub mod Naming
 pub mod NotDone
 pub mod PairLemmas
 pub mod Parts

@@ -1,19 +1,11 @@
 -- Loading commands, one after the other.
-use Rattle.camp_talk.proofs.Words.{◌≡◌, ℕ, ◌+◌, Bool, true, false, List, [], ◌∷◌, ◌++◌, Option, Result, Ok, Err, Vec, refl, sym, ap, subst, ◌∙◌, append-nil, flat_map, Consumes, Consumes-nil, Consumes-trans, flat_map-append, All-append, All-cons, All-nil, LineFault, AnswersCommand, SessionState, AnswersParsed, parsed_command, Entries, Exchange, ParsedCommand, DoesOne, ExecutesNext, LoadsOne, Done, Fails, ReadsCommand, ReportsSuccess, LacksMemory, reports_failure}
-use Rattle.camp_talk.specs.declared.questions.ParsedCommand.TheVariants as parsed
-use Rattle.camp_talk.proofs.NotDone.{by_reply}
+use Rattle.camp_talk.proofs.Words.{◌≡◌, ℕ, ◌+◌, Bool, true, false, List, [], ◌∷◌, ◌++◌, Option, Ok, Vec, refl, sym, ap, subst, ◌∙◌, append-nil, flat_map, Consumes, Consumes-nil, Consumes-trans, flat_map-append, All-append, All-cons, All-nil, AnswersCommand, SessionState, Exchange, DoesOne, ExecutesNext, LoadsOne, Done, Fails, ReadsCommand, ReportsSuccess, LacksMemory}
+use Rattle.std.specs.Global.{Global}
+use Rattle.camp_talk.proofs.Failing.{failure_reported}
 use Rattle.camp_talk.proofs.StepLemmas.{answered, one_more}
-
--- ---- a failure changes nothing
-
-module _ (before : SessionState) (text : List ℕ) (now : Entries) (fails : reports_failure text ≡ true) where
-  by_parsed : (parsed : Result ParsedCommand LineFault) → AnswersParsed before parsed text now → now ≡ before.history
-  by_parsed (Ok (parsed.Call call)) reports = by_reply before.history now call reports_failure (λ at. refl) text fails reports.reply reports.reports reports.asks
-  by_parsed other reports = reports.1
-
-pub failure_keeps : (before : SessionState) (parsed : Result ParsedCommand LineFault) (text : List ℕ) (now : Entries)
-    → AnswersParsed before parsed text now → reports_failure text ≡ true → now ≡ before.history
-failure_keeps before parsed text now reports fails = by_parsed before text now fails parsed reports
+use Rattle.camp_talk.specs.declared.responses.Failure.{Failure}
+use Rattle.camp_talk.specs.declared.responses.Response.{Response}
+use Rattle.camp_talk.specs.declared.responses.Response.TheVariants as given
 
 -- ---- one command
 
@@ -37,34 +29,34 @@ module _ (a b : Option (List ℕ)) (before after : SessionState) where
     same = refl;
   }
 
-module _ {a b : Option (List ℕ)} {before after : SessionState} where
-  module _ {Z E : Type 0} where
-    pub one_done : {response : Result (Vec ℕ Z) E} {whole : Bool} {text : Vec ℕ Z} → ExecutesNext a b before whole response after → response ≡ Ok text
-        → ReportsSuccess text.items → LoadsOne a b before (Ok whole) after
-    one_done {response} {whole} {text} response_is is well =
-        let executes_next = subst (λ (response : Result (Vec ℕ Z) E). ExecutesNext a b before whole response after) is response_is in
-        one_done_at a b before after whole executes_next.command text.items executes_next.reads
-        (answered {Z = Z} {E = E} before after executes_next.command (Ok text) executes_next.says executes_next.counts) well
+module _ {a b : Option (List ℕ)} {before after : SessionState} {response : Response} {whole : Bool} (executes : ExecutesNext a b before whole response after) where
+  by : {other : Response} → response ≡ other → ExecutesNext a b before whole other after
+  by is = subst (λ (response : Response). ExecutesNext a b before whole response after) is executes
 
-    pub one_fails : {response : Result (Vec ℕ Z) E} {whole : Bool} {text : Vec ℕ Z} {line : ℕ} → ExecutesNext a b before whole response after → response ≡ Ok text
-        → reports_failure text.items ≡ true → line ≡ before.lines + 1 → Fails a b before line text.items after.history
-    one_fails {response} {whole} {text} response_is is failure at =
-        let executes_next = subst (λ (response : Result (Vec ℕ Z) E). ExecutesNext a b before whole response after) is response_is in
-        record {
-          whole = whole;
-          command = executes_next.command;
-          reads = executes_next.reads;
-          reports = executes_next.says.0;
-          failure = failure;
-          at = at;
-          same = failure_keeps before (parsed_command executes_next.command) text.items after.history executes_next.says.0 failure;
-        }
+  pub one_done : {text : Vec ℕ Global} → response ≡ given.Done text → LoadsOne a b before (Ok whole) after
+  one_done {text} is =
+      let executes_next = by is in
+      one_done_at a b before after whole executes_next.command text.items executes_next.reads
+      (answered before after executes_next.command (given.Done text) executes_next.says executes_next.counts) executes_next.says.0.1
 
-    pub one_wants : {response : Result (Vec ℕ Z) E} {whole : Bool} {line : ℕ} {error : E} → ExecutesNext a b before whole response after → response ≡ Err error
-        → line ≡ before.lines + 1 → LacksMemory a b before line after.history
-    one_wants {response} {whole} {line} {error} response_is is at =
-        let executes_next = subst (λ (response : Result (Vec ℕ Z) E). ExecutesNext a b before whole response after) is response_is in
-        record { whole = whole; command = executes_next.command; reads = executes_next.reads; at = at; asks = executes_next.says.0; same = executes_next.says.1 }
+  pub one_fails : {why : Failure} {text : Vec ℕ Global} {line : ℕ} → response ≡ given.Failed why text → line ≡ before.lines + 1
+      → Fails a b before line text.items after.history
+  one_fails {why} {text} is at =
+      let executes_next = by is in
+      record {
+        whole = whole;
+        command = executes_next.command;
+        reads = executes_next.reads;
+        reports = executes_next.says.0.0.0;
+        failure = failure_reported before _ why text.items after.history executes_next.says.0.0.0 executes_next.says.0.1;
+        at = at;
+        same = executes_next.says.0.2;
+      }
+
+  pub one_wants : {line : ℕ} → response ≡ given.OutOfMemory → line ≡ before.lines + 1 → LacksMemory a b before line after.history
+  one_wants is at =
+      let executes_next = by is in
+      record { whole = whole; command = executes_next.command; reads = executes_next.reads; at = at; asks = executes_next.says.1; same = executes_next.says.0.0 }
 
 -- ---- commands
 

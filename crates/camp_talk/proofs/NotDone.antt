@@ -1,16 +1,18 @@
--- Commands that are not done.
-use Rattle.camp_talk.proofs.Words.{◌≡◌, ◌≢◌, zero, suc, Bool, true, false, List, [], ◌∷◌, drop, map, ℕ, Result, Ok, Err, Vec, IfOk, refl, ap, sym, subst, true≢false, ◌∙◌, first_of, without_end, ParsedCommand, Call, Entries, Gives, LineFault, ScriptFault, SessionState, AnswersParsed, reply_text}
+-- Calls that are executed, and lines by their number.
+use Rattle.camp_talk.proofs.Words.{◌≡◌, zero, suc, true, List, [], ◌∷◌, drop, map, ℕ, Result, Ok, Err, Vec, refl, ap, sym, subst, true≢false, ◌∙◌, first_of, without_end, Call, Entries, reply_text, reports_failure}
 use Rattle.std.proofs.Common.{◌+◌, ◌++◌, Some, length, length-append, unwrap_or}
+use Rattle.std.specs.Global.{Global}
 use Rattle.std.specs.List.{slice_get}
 use Rattle.camp_call.specs.declared.replies.Reply.{Reply}
 use Rattle.camp_call.specs.declared.replies.Reply.TheVariants as reply
 use Rattle.camp_object.specs.Books.{AsksBook}
 use Rattle.camp_object.proofs.SameBooks.{same_book}
 use Rattle.camp_object.specs.declared.faults.Fault.TheVariants as fault
+use Rattle.camp_questions.specs.declared.faults.Unanswered.{Unanswered}
+use Rattle.camp_questions.specs.declared.faults.Unanswered.TheVariants as unanswered
 use Rattle.camp_repo.specs.Objects.{reply_number, repository}
 use Rattle.camp_talk.specs.Answers.{Replies}
-use Rattle.camp_talk.specs.Reports.{is_failure}
-use Rattle.camp_talk.specs.declared.questions.ParsedCommand.TheVariants.{Nothing}
+use Rattle.camp_talk.specs.Inside.ExecutingNext.{RendersReply, RepliesTo}
 
 module _ (old now : Entries) (call : Call) where
   -- a call for which memory ran out changes nothing
@@ -31,25 +33,39 @@ module _ (old now : Entries) (call : Call) where
   pub never_full : {A : Type 0} → AsksBook repository 0 old call (Err fault.Full) now → A
   never_full asks = absurd (true≢false asks.asks.says.not_alone)
 
-  -- if a text says that a call was not done, by a test that the text of an accepted one fails
-  pub by_reply : (fails : List ℕ → Bool) → ((at : ℕ) → fails (reply_text (reply.Done at)) ≡ false) → (text : List ℕ) → fails text ≡ true
-      → (answer : Reply) → text ≡ reply_text answer → AsksBook repository 0 old call (Ok answer) now → now ≡ old
-  by_reply fails done text is (reply.Done at) reports asks = absurd (true≢false (sym is ∙ ap fails reports ∙ done at))
-  by_reply fails done text is other reports asks = same_book now old asks.first (asks.asks.says.0.exact refl)
+  -- the reply to a call, rendered
+  module _ (accepted : List ℕ) (is_accepted : accepted ≡ reply_text (reply.Done (length old.calls + 1))) where
+    done : (at : ℕ) → AsksBook repository 0 old call (Ok (reply.Done at)) now → (text : List ℕ) → text ≡ accepted → Replies old call text now
+    done at asks text is = record {
+      reply = reply.Done at;
+      asks = asks;
+      reports = is ∙ is_accepted ∙ ap reply_text (sym (next_number (reply.Done at) at refl asks));
+    }
 
-  -- a call that is answered by a refusal changes nothing
-  pub replies_keep : {Z E : Type 0} (result : Result (Vec ℕ Z) E) → IfOk result (λ text. Replies old call text.items now)
-      → IfOk result (λ text. is_failure text.items ≡ true → now ≡ old)
-  replies_keep (Ok text) replies = λ fails. by_reply is_failure (λ at. refl) text.items fails replies.reply replies.reports replies.asks
-  replies_keep (Err error) replies = tt
+    -- nothing has changed, and this error says so
+    unchanged : (why given : Unanswered) → why ≡ given → RepliesTo {Z = Global} old call (Err given) now → RepliesTo {Z = Global} old call (Err why) now
+    unchanged why given is replies = subst (λ (why : Unanswered). RepliesTo {Z = Global} old call (Err why) now) (sym is) replies
 
--- an answer that is a fault or a refusal is one to something
-pub failures_ask : (before : SessionState) (parsed : Result ParsedCommand ScriptFault) (text : List ℕ) (now : Entries) → is_failure text ≡ true
-    → ((reading : Result ParsedCommand LineFault) → Gives parsed reading → AnswersParsed before reading text now) → parsed ≢ Ok Nothing
-failures_ask before parsed text now fails reports nothing =
-    let answers = reports (Ok Nothing) (subst (λ (parsed : Result ParsedCommand ScriptFault). Gives parsed (Ok Nothing)) (sym nothing) refl) in
-    let succeeds : is_failure text ≡ false = ap is_failure answers.0 in
-    absurd (true≢false (sym fails ∙ succeeds))
+    pub replies_so : (answer : Reply) → AsksBook repository 0 old call (Ok answer) now → (result : Result (Vec ℕ Global) Unanswered)
+        → RendersReply accepted answer result → RepliesTo old call result now
+    replies_so (reply.Done at) asks (Ok text) is = (done at asks text.items is, ap reports_failure (is ∙ is_accepted))
+    replies_so (reply.Done at) asks (Err why) is = absurd is
+    replies_so (reply.Refused refusal) asks (Ok text) is = absurd is
+    replies_so (reply.Refused refusal) asks (Err why) is =
+        unchanged why (unanswered.Refused refusal) is
+        (record { reply = reply.Refused refusal; asks = asks; reports = refl }, same_book now old asks.first (asks.asks.says.0.exact refl))
+    replies_so (reply.Tree tree) asks (Ok text) is =
+        (record { reply = reply.Tree tree; asks = asks; reports = is }, ap reports_failure is)
+    replies_so (reply.Conflicts pairs) asks (Ok text) is =
+        (record { reply = reply.Conflicts pairs; asks = asks; reports = is }, ap reports_failure is)
+    replies_so (reply.Names names) asks (Ok text) is =
+        (record { reply = reply.Names names; asks = asks; reports = is }, ap reports_failure is)
+    replies_so (reply.Tree tree) asks (Err why) is =
+        unchanged why unanswered.Memory is (same_book now old asks.first (asks.asks.says.0.exact refl))
+    replies_so (reply.Conflicts pairs) asks (Err why) is =
+        unchanged why unanswered.Memory is (same_book now old asks.first (asks.asks.says.0.exact refl))
+    replies_so (reply.Names names) asks (Err why) is =
+        unchanged why unanswered.Memory is (same_book now old asks.first (asks.asks.says.0.exact refl))
 
 -- ---- the line of a number
 

@@ -10,6 +10,8 @@ use Rattle.camp_talk.specs.declared.faults.TalkFault.{TalkFault}
 use Rattle.camp_talk.specs.declared.faults.TalkFault.TheVariants.{Internal, Memory, Read, Write}
 use Rattle.camp_talk.specs.declared.requests.Halt.{Halt}
 use Rattle.camp_talk.specs.declared.requests.Halt.TheVariants.{After, Before}
+use Rattle.camp_talk.specs.declared.responses.Response.{Response}
+use Rattle.camp_talk.specs.declared.responses.Response.TheVariants.{Done, Failed, OutOfMemory}
 
 abbrev command_of : Exchange → List ℕ
 command_of exchange = exchange.command
@@ -84,22 +86,28 @@ module _ (a b : Option (List ℕ)) (old new : List ℕ) (before : SessionState) 
   not_executed Internal none = none
 
   -- the answer to a command can't be stored
-  module _ {Z E : Type 0} (whole : Bool) (reached after : SessionState) (same : after.history ≡ reached.history) (kept : new ≡ old) where
-    pub halts : (response : Result (Vec ℕ Z) E) (halt : Halt) → ExecutesNext a b before whole response reached
-        → IsHaltOf response halt → AppendsStep a b old new before (Err halt) after
-    halts (Ok text) (Before why) executes is = absurd is
-    halts (Ok text) After executes is = record {
+  module _ (whole : Bool) (reached after : SessionState) (same : after.history ≡ reached.history) (kept : new ≡ old) where
+    after_answer : (command text : List ℕ) → ReadsCommand a b whole command → AnswersParsed before (parsed_command command) text reached.history
+        → AppendsStep a b old new before (Err After) after
+    after_answer command text reads reports = record {
       whole = whole;
-      exchange = record { command = executes.command; answer = text.items };
-      reads = executes.reads;
-      reports = subst (λ (now : Entries). AnswersParsed before (parsed_command executes.command) text.items now) (sym same) executes.says.0;
+      exchange = record { command = command; answer = text };
+      reads = reads;
+      reports = subst (λ (now : Entries). AnswersParsed before (parsed_command command) text now) (sym same) reports;
       kept = kept;
     }
-    halts (Err error) (Before Memory) executes is = record { none = tt; kept = kept; same = same ∙ executes.says.1 }
-    halts (Err error) (Before (Read why)) executes is = absurd is
-    halts (Err error) (Before (Write why)) executes is = absurd is
-    halts (Err error) (Before Internal) executes is = absurd is
-    halts (Err error) After executes is = absurd is
+
+    pub halts : (response : Response) (halt : Halt) → ExecutesNext a b before whole response reached
+        → IsHaltOf response halt → AppendsStep a b old new before (Err halt) after
+    halts (Done text) halt executes is =
+        subst (λ (halt : Halt). AppendsStep a b old new before (Err halt) after) (sym is)
+        (after_answer executes.command text.items executes.reads executes.says.0.0.0)
+    halts (Failed why text) halt executes is =
+        subst (λ (halt : Halt). AppendsStep a b old new before (Err halt) after) (sym is)
+        (after_answer executes.command text.items executes.reads executes.says.0.0.0)
+    halts OutOfMemory halt executes is =
+        subst (λ (halt : Halt). AppendsStep a b old new before (Err halt) after) (sym is)
+        (record { none = tt; kept = kept; same = same ∙ executes.says.0.0 })
 
 -- ---- all steps
 

@@ -19,14 +19,14 @@ pub use Rattle.camp_script.specs.Reading.{script_of_lines}
 pub use Rattle.camp_script.specs.Texts.{reply_text}
 pub use Rattle.camp_script.specs.declared.faults.LineFault.{LineFault}
 pub use Rattle.camp_script.specs.declared.faults.ScriptFault.{ScriptFault}
-pub use Rattle.camp_talk.specs.Answers.{AnswersCommand, AnswersParsed, RunsOutOfMemory, SessionState, UpdatesDiagnostic, is_silent}
+pub use Rattle.camp_talk.specs.Answers.{AnswersCommand, AnswersParsed, RunsOutOfMemory, SessionState, UpdatesDiagnostic, is_silent, reports_failure}
 pub use Rattle.camp_talk.specs.Parsing.{first_of, parsed_command, parsed_lines, question_of, short_question}
 pub use Rattle.camp_talk.specs.Cutting.{IsCommand, IsLeft, IsLine, TakesAll, as_read, lines_in, script_in, lines_taken}
 pub use Rattle.camp_talk.specs.Entries.{Entries}
-pub use Rattle.camp_talk.specs.Inside.ExecutingNext.{DoesOne, ExecutesNext, IsResponse, LoadsOne, UpdatesDiagnosticOf}
+pub use Rattle.camp_talk.specs.Inside.ExecutingNext.{DoesOne, ExecutesNext, IsResponse, LoadsOne}
 pub use Rattle.camp_talk.specs.Inside.Parts.{Ends, EndsAt, GoesOn, IsReading, ReadsHeld, ReadsLine, ReadsLines, ReadsNext, StopsAtLine, StopsInLine, Takes, ended, feed_of, last_seen, seen_of, with_last}
-pub use Rattle.camp_talk.specs.Inside.Responses.{IsWriting, answer_or_memory}
-pub use Rattle.camp_talk.specs.Loads.{Done, Fails, LacksMemory, ReportsSuccess, reports_failure}
+pub use Rattle.camp_talk.specs.Inside.Responses.{IsWriting, written}
+pub use Rattle.camp_talk.specs.Loads.{Done, Fails, LacksMemory, ReportsSuccess}
 pub use Rattle.camp_talk.specs.Talks.{AnswersInOrder, AppendsSome, Breaks, Exchange, Exchanges, HasAnswered, ReadsCommand, ReadsNone, ReadsTooMuch, ReadsWithin, Stops, TakesStep}
 pub use Rattle.camp_talk.specs.QuestionAnswers.{RendersAnswer, annotated_line, catch_line, names_answer}
 pub use Rattle.camp_talk.specs.declared.lines.Seen.{Seen}

@@ -1,24 +1,25 @@
 -- The answers to commands, by the state of the session.
-use Rattle.std.specs.Prelude.{◌≡◌, ◌⊎◌, ℕ, ◌+◌, Bool, true, false, List, [], ◌++◌, length, Some, Result, Ok, Err, codes}
-use Rattle.std.specs.Fmt.{decimal}
+use Rattle.std.specs.Prelude.{◌≡◌, ◌⊎◌, ℕ, ◌+◌, Bool, true, false, ◌||◌, List, [], length, Some, Result, Ok, Err, codes}
 use Rattle.camp_call.specs.declared.calls.Call.{Call}
+use Rattle.camp_call.specs.declared.replies.Refusal.{Refusal}
 use Rattle.camp_call.specs.declared.replies.Reply.{Reply}
+use Rattle.camp_call.specs.declared.replies.Reply.TheVariants.{Refused}
 use Rattle.camp_object.specs.Books.{AsksBook, replay_book}
 use Rattle.camp_repo.specs.Objects.{repository}
 use Rattle.camp_repo.specs.States.{Contents}
-use Rattle.camp_script.specs.Faults.{kind_words}
 use Rattle.camp_script.specs.Lines.{is_skipped, lines_of, words_of}
 use Rattle.camp_script.specs.Texts.{reply_text}
-use Rattle.camp_script.specs.declared.faults.FaultKind.{FaultKind}
 use Rattle.camp_script.specs.declared.faults.LineFault.{LineFault}
-use Rattle.camp_talk.specs.Diagnostics.{Diagnostic, diagnostic_after}
-use Rattle.camp_talk.specs.Parsing.{first_of, parsed_command}
 use Rattle.camp_talk.specs.Cutting.{lines_in}
+use Rattle.camp_talk.specs.Diagnostics.{Diagnostic, closed, fault_diagnostic, refused_diagnostic}
 use Rattle.camp_talk.specs.Entries.{Entries}
-use Rattle.camp_talk.specs.QuestionAnswers.{AnswersQuestion}
-use Rattle.camp_talk.specs.Reports.{diagnostic_of, is_failure, why_answer}
+use Rattle.camp_talk.specs.FaultTexts.{fault_text}
+use Rattle.camp_talk.specs.Parsing.{first_of, parsed_command}
+use Rattle.camp_talk.specs.QuestionAnswers.{AnswersQuestion, TextAnswers}
+use Rattle.camp_talk.specs.Reports.{RendersWhy}
 use Rattle.camp_talk.specs.declared.questions.ParsedCommand.{ParsedCommand}
 use Rattle.camp_talk.specs.declared.questions.ParsedCommand.TheVariants as parsed
+use Rattle.camp_why.specs.Hints.{begins}
 
 -- the state of a session: the initial state of its repository, the accepted calls, the number of lines that were read,
 -- and the diagnostic of the last fault or refusal
@@ -27,13 +28,13 @@ pub record SessionState : Type 0 where
   pub lines : ℕ
   pub diagnostic : Diagnostic
 
--- the answer to a command with a fault: the line number, and the kind of the fault
-abbrev pub fault_text : ℕ → FaultKind → List ℕ
-fault_text line kind = (codes "fault " ++ decimal line ++ codes " " ++ kind_words kind) ++ codes "\n"
-
 -- the answer if memory ran out
 abbrev pub memory_text : List ℕ
 memory_text = codes "memory\n"
+
+-- an answer says that its command was not done: it is a fault, a refusal or out of memory
+abbrev pub reports_failure : List ℕ → Bool
+reports_failure answer = begins (codes "fault ") answer || begins (codes "refused ") answer || begins memory_text answer
 
 -- a call is executed while nobody else asks: this text is its reply, and this is the history after it
 pub record Replies (seen : Entries) (call : Call) (text : List ℕ) (now : Entries) : Type 0 where
@@ -48,19 +49,41 @@ abbrev pub AnswersParsed : SessionState → Result ParsedCommand LineFault → L
 AnswersParsed before (Err fault) text now = (text ≡ fault_text (before.lines + fault.line) fault.kind) × (now ≡ before.history)
 AnswersParsed before (Ok parsed.Nothing) text now = (text ≡ []) × (now ≡ before.history)
 AnswersParsed before (Ok (parsed.Call call)) text now = Replies before.history call text now
-AnswersParsed before (Ok (parsed.Question question)) text now = AnswersQuestion before.history question text × (now ≡ before.history)
-AnswersParsed before (Ok parsed.Why) text now = (text ≡ why_answer before.diagnostic.report) × (now ≡ before.history)
+AnswersParsed before (Ok (parsed.Question question)) text now = TextAnswers (AnswersQuestion before.history question) text × (now ≡ before.history)
+AnswersParsed before (Ok parsed.Why) text now = RendersWhy before.diagnostic text × (now ≡ before.history)
 
--- the diagnostic after an answer: after a fault or a refusal its cause, at the state before the command; after any
--- other answer the one before
-abbrev pub UpdatesDiagnosticAt : Bool → SessionState → List ℕ → List ℕ → Diagnostic → Type 0
-UpdatesDiagnosticAt true before command text diagnostic =
-    (state : Contents) × (replay_book repository before.history ≡ Some state) × (diagnostic ≡ diagnostic_of before.diagnostic state command text)
-UpdatesDiagnosticAt false before command text diagnostic = diagnostic ≡ diagnostic_after text before.diagnostic
+-- an answer that is no failure closes the diagnostic from before
+abbrev pub ClosesDiagnostic : SessionState → List ℕ → Diagnostic → Type 0
+ClosesDiagnostic before text diagnostic = (reports_failure text ≡ false) × (diagnostic ≡ closed before.diagnostic)
 
--- the two relations of an answer to a command, given the text of the answer
-abbrev pub UpdatesDiagnostic : SessionState → List ℕ → List ℕ → Diagnostic → Type 0
-UpdatesDiagnostic before command text diagnostic = UpdatesDiagnosticAt (is_failure text) before command text diagnostic
+-- the answer is a refusal, and the diagnostic is that of this request, given its first line: why it is refused, at the
+-- state before it
+pub record KeepsRefusal (before : SessionState) (line : List ℕ) (request : ParsedCommand) (text : List ℕ) (diagnostic : Diagnostic) : Type 0 where
+  pub refusal : Refusal
+  pub reports : text ≡ reply_text (Refused refusal)
+  pub state : Contents
+  pub leads : replay_book repository before.history ≡ Some state
+  pub is : diagnostic ≡ refused_diagnostic state line request refusal
+
+-- a request asks nothing
+abbrev pub asks_nothing : ParsedCommand → Bool
+asks_nothing parsed.Nothing = true
+asks_nothing (parsed.Call call) = false
+asks_nothing (parsed.Question question) = false
+asks_nothing parsed.Why = false
+
+-- the diagnostic after a request was answered, given whether it asks nothing: then it stays; a refused request is kept;
+-- any other closes it
+abbrev pub UpdatesByRequest : Bool → SessionState → List ℕ → ParsedCommand → List ℕ → Diagnostic → Type 0
+UpdatesByRequest true before line request text diagnostic = diagnostic ≡ before.diagnostic
+UpdatesByRequest false before line request text diagnostic =
+    ClosesDiagnostic before text diagnostic ⊎ KeepsRefusal before line request text diagnostic
+
+-- the diagnostic after the answer to a command, by its lines and its parsed form: a fault is kept
+abbrev pub UpdatesDiagnostic : SessionState → List (List ℕ) → Result ParsedCommand LineFault → List ℕ → Diagnostic → Type 0
+UpdatesDiagnostic before lines (Err fault) text diagnostic = diagnostic ≡ fault_diagnostic before.diagnostic before.lines fault lines
+UpdatesDiagnostic before lines (Ok request) text diagnostic =
+    UpdatesByRequest (asks_nothing request) before (first_of lines) request text diagnostic
 
 -- the first line of a command asks nothing: it is blank or a comment, or there is none
 abbrev pub is_silent : List ℕ → Bool
@@ -70,8 +93,13 @@ is_silent command = is_skipped (words_of (first_of (lines_in command)))
 abbrev pub RunsOutOfMemory : SessionState → List ℕ → List ℕ → Entries → Type 0
 RunsOutOfMemory before command text now = (is_silent command ≡ false) × (text ≡ memory_text) × (now ≡ before.history)
 
--- a command is answered, or memory ran out; its lines are counted; and if it was not done, its diagnostic is stored
+-- the diagnostic after that is the one from before
+abbrev pub KeepsDiagnostic : SessionState → List ℕ → Diagnostic → Type 0
+KeepsDiagnostic before text diagnostic = (text ≡ memory_text) × (diagnostic ≡ before.diagnostic)
+
+-- a command is answered, unless memory ran out; its lines were read; and if it was not done, why is kept
 pub record AnswersCommand (before : SessionState) (command text : List ℕ) (after : SessionState) : Type 0 where
   pub reports : AnswersParsed before (parsed_command command) text after.history ⊎ RunsOutOfMemory before command text after.history
   pub counts : after.lines ≡ before.lines + length (lines_of command)
-  pub updates : UpdatesDiagnostic before command text after.diagnostic
+  pub updates :
+      UpdatesDiagnostic before (lines_in command) (parsed_command command) text after.diagnostic ⊎ KeepsDiagnostic before text after.diagnostic

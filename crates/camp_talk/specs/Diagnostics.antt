@@ -1,11 +1,23 @@
 -- The state that a conversation keeps for `why`.
-use Rattle.std.specs.Prelude.{ℕ, Bool, true, false, ◌||◌, ◌==◌, List, [], ◌∷◌, length, bytes_eq, codes, if◌then◌else◌}
+use Rattle.std.specs.Prelude.{ℕ, ◌-◌, Bool, true, false, not, ◌&&◌, ◌||◌, ◌==◌, List, [], ◌∷◌, drop, bytes_eq, Option, None, Some, codes, if◌then◌else◌}
+use Rattle.camp_call.specs.declared.replies.Refusal.{Refusal}
+use Rattle.camp_repo.specs.States.{Contents}
 use Rattle.camp_script.specs.AfterWords.{after_word}
 use Rattle.camp_script.specs.Lines.{words_of}
 use Rattle.camp_script.specs.Pieces.{begins_edit, begins_with}
+use Rattle.camp_script.specs.declared.faults.FaultKind.{FaultKind}
+use Rattle.camp_script.specs.declared.faults.FaultKind.TheVariants as kind
+use Rattle.camp_script.specs.declared.faults.LineFault.{LineFault}
+use Rattle.camp_talk.specs.Parsing.{first_of}
+use Rattle.camp_talk.specs.declared.diagnostics.FailureCause.{FailureCause}
+use Rattle.camp_talk.specs.declared.diagnostics.FailureCause.TheVariants.{Fault, Refused}
+use Rattle.camp_talk.specs.declared.questions.ParsedCommand.{ParsedCommand}
+use Rattle.camp_talk.specs.declared.questions.ParsedCommand.TheVariants as parsed
 use Rattle.camp_talk.specs.declared.recovery.Recovery.{Recovery}
 use Rattle.camp_talk.specs.declared.recovery.Recovery.TheVariants.{Body, Group, GroupBody, Nothing, Signed}
-use Rattle.camp_why.specs.Hints.{begins_signed, call_part, first_word}
+use Rattle.camp_why.specs.Causes.{explained}
+use Rattle.camp_why.specs.Hints.{begins_signed, call_part, first_word, hint}
+use Rattle.camp_why.specs.declared.causes.Cause.{Cause}
 
 -- ---- recovery: the lines of a command that was cut off
 
@@ -45,7 +57,8 @@ abbrev pub is_record : List ℕ → Bool
 is_record line =
     is_form (codes "record") (codes "Record") (codes "RECORD") (first_word (words_of (call_part line)))
 
--- the first word of a line is `client`, or that of a command that may be unknown only because of the words after it
+-- the first word of a line is `client`, or one whose command may be unknown only because of the words after it:
+-- `record`, `help` or `whatif`
 abbrev pub begins_command : List ℕ → Bool
 begins_command line =
     is_record line
@@ -68,7 +81,7 @@ is_group word =
 abbrev pub is_edit : List ℕ → Bool
 is_edit word = is_form (codes "edit") (codes "Edit") (codes "EDIT") word
 
--- the kind of lines that follow by the first of these words that says it; else the given kind
+-- the kind of lines that follow, by the first of these words that decides it; if none does, the given kind
 abbrev pub recovery_in_words : List (List ℕ) → Recovery → Recovery
 recovery_in_words [] other = other
 recovery_in_words (word ∷ words) other =
@@ -87,30 +100,85 @@ recovery_after_branch line = recovery_in_words (words_of (after_word line)) (rec
 abbrev pub recovery_of_line : List ℕ → Recovery
 recovery_of_line line = recovery_after_branch (after_word (after_word (call_part line)))
 
--- ---- the diagnostic and the recovery state
+-- a kind is that of an unknown command
+abbrev pub is_unknown : FaultKind → Bool
+is_unknown kind.UnknownCommand = true
+is_unknown other = false
 
--- the diagnostic of the last fault or refusal: the lines that `why` shows, none if there was no fault and no refusal;
--- and the kind of lines that may still come, if the fault is in the first line of a record, or of what may be one
+-- a line with a fault of a kind begins no command
+abbrev pub is_no_command : FaultKind → List ℕ → Bool
+is_no_command kind line = is_unknown kind && not (begins_command line)
+
+-- it is a record, or may be one whose first word is misspelt
+abbrev pub may_record : FaultKind → List ℕ → Bool
+may_record kind line = is_record line || is_no_command kind line
+
+-- the lines that may still come of a command, given the number of its faulty line, the kind of the fault, and that
+-- line; only a fault in the first line cuts lines off
+abbrev pub cut_off : ℕ → FaultKind → List ℕ → Recovery
+cut_off number kind line = if number == 1 && may_record kind line then recovery_of_line line else Nothing
+
+-- a fault is the consequence of one before it: its line begins no command, and may be one of a body or a group that
+-- was cut off
+abbrev pub is_consequence : Recovery → FaultKind → List ℕ → Bool
+is_consequence recovery kind line = may_be recovery line && is_no_command kind line
+
+-- ---- the diagnostic
+
+-- a command that was not done: the line that has the fault, or the first one; and why it was not done
+pub record FailedCommand : Type 0 where
+  pub line : List ℕ
+  pub cause : FailureCause
+
+-- the diagnostic of the last fault or refusal: the last command that was not done, if there was one; and the kind of
+-- its lines that may still come, if a fault in its first line cut off what is a record, or may be one
 pub record Diagnostic : Type 0 where
-  pub report : List ℕ
+  pub failed : Option FailedCommand
   pub recovery : Recovery
 
 -- the diagnostic before any fault or refusal
 abbrev pub no_diagnostic : Diagnostic
-no_diagnostic = record { report = []; recovery = Nothing }
+no_diagnostic = record { failed = None; recovery = Nothing }
 
--- the same diagnostic, after which no further lines of its command may come
+-- the same command; no line of it may come
 abbrev pub closed : Diagnostic → Diagnostic
-closed diagnostic = record { report = diagnostic.report; recovery = Nothing }
+closed diagnostic = record { failed = diagnostic.failed; recovery = Nothing }
 
--- the same diagnostic, after one more line of its command
+-- the same command, after one of its lines came
 abbrev pub advanced : Diagnostic → List ℕ → Diagnostic
-advanced diagnostic line = record { report = diagnostic.report; recovery = recovery_after diagnostic.recovery line }
+advanced diagnostic line = record { failed = diagnostic.failed; recovery = recovery_after diagnostic.recovery line }
 
--- an answer leaves the diagnostic unchanged: it is empty, or out of memory
-abbrev pub leaves_diagnostic : List ℕ → Bool
-leaves_diagnostic answer = length answer == 0 || bytes_eq answer (codes "memory\n")
+-- the line of a number, counted from 1, or an empty one
+abbrev pub line_at : ℕ → List (List ℕ) → List ℕ
+line_at number lines = first_of (drop (number - 1) lines)
 
--- the diagnostic after an answer that is neither a fault nor a refusal
-abbrev pub diagnostic_after : List ℕ → Diagnostic → Diagnostic
-diagnostic_after answer diagnostic = if leaves_diagnostic answer then diagnostic else closed diagnostic
+-- a command with a fault, given the number of lines before it and the line that has the fault
+abbrev pub fault_found : ℕ → LineFault → List ℕ → FailedCommand
+fault_found before fault line = record { line = line; cause = Fault before fault (hint fault.kind line) }
+
+-- the diagnostic of a command with a fault of its own, and the lines that may follow it
+abbrev pub own_fault_diagnostic : ℕ → LineFault → List (List ℕ) → Diagnostic
+own_fault_diagnostic before fault lines = record {
+  failed = Some (fault_found before fault (line_at fault.line lines));
+  recovery = cut_off fault.line fault.kind (first_of lines);
+}
+
+-- the diagnostic of a command with a fault, given the number of lines before it and its lines; if the fault is the
+-- consequence of one before it, that one stays
+abbrev pub fault_diagnostic : Diagnostic → ℕ → LineFault → List (List ℕ) → Diagnostic
+fault_diagnostic diagnostic before fault lines =
+    if is_consequence diagnostic.recovery fault.kind (first_of lines) then advanced diagnostic (first_of lines)
+    else own_fault_diagnostic before fault lines
+
+-- why a request is refused; none if the refusal says it all
+abbrev pub explained_request : Contents → ParsedCommand → Refusal → Option Cause
+explained_request state (parsed.Call call) refusal = explained state call refusal
+explained_request state other refusal = None
+
+-- a request that a state refused, given its first line
+abbrev pub refused_found : Contents → List ℕ → ParsedCommand → Refusal → FailedCommand
+refused_found state line request refusal = record { line = line; cause = Refused refusal request state (explained_request state request refusal) }
+
+-- the diagnostic of a request that a state refused, given its first line
+abbrev pub refused_diagnostic : Contents → List ℕ → ParsedCommand → Refusal → Diagnostic
+refused_diagnostic state line request refusal = record { failed = Some (refused_found state line request refusal); recovery = Nothing }

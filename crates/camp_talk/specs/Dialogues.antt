@@ -3,7 +3,7 @@ use Rattle.std.specs.Prelude.{◌≡◌, Bool, true, false, List, [], ◌∷◌,
 
 -- given the relation of a step: between the state before it, its result, and the state after it
 module _ {State Fault : Type 0} (StepRelation : State → Result Bool Fault → State → Type 0) where
-  -- steps lead from one state to another over states after each of which there may be more
+  -- steps lead from one state to another over these states; after each step there may be more
   abbrev pub StepsLead : State → List State → State → Type 0
   StepsLead first [] last = first ≡ last
   StepsLead first (next ∷ others) last = StepRelation first (Ok true) next × StepsLead next others last

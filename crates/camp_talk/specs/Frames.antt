@@ -1,5 +1,5 @@
 -- Requests in frames: each comes after a line with its number of bytes, and so does its answer.
-use Rattle.std.specs.Prelude.{◌≡◌, ◌≢◌, ◌<◌, ◌≤◌, ◌⊎◌, ◌+◌, ◌^◌, ℕ, Bool, true, false, List, [], ◌∷◌, ◌++◌, length, Option, OnSome, None, Some, Result, Ok, Err, codes}
+use Rattle.std.specs.Prelude.{◌≡◌, ◌≢◌, ◌<◌, ◌≤◌, ◌⊎◌, ◌+◌, ◌^◌, ℕ, Bool, true, false, List, [], ◌∷◌, ◌++◌, length, Option, OnSome, None, Some, Result, Ok, Err}
 use Rattle.std.specs.Fmt.{decimal}
 use Rattle.std.specs.List.{flat_map}
 use Rattle.std.specs.Io.KnownBytes.{Appends, Consumes, IsAtEnd, Keeps}
@@ -7,7 +7,7 @@ use Rattle.camp_base.specs.Signs.{newline}
 use Rattle.camp_script.specs.Words.{count_of}
 use Rattle.camp_talk.specs.Cutting.{IsLine}
 use Rattle.camp_talk.specs.Entries.{Entries}
-use Rattle.camp_talk.specs.Faults.{fault_status, talk_fault_words}
+use Rattle.camp_talk.specs.Faults.{fault_status}
 use Rattle.camp_talk.specs.Requests.{AnswersRequest, AnswersSome}
 use Rattle.camp_talk.specs.Talks.{AppendsSome}
 use Rattle.camp_talk.specs.declared.frames.FrameFault.{FrameFault}
@@ -98,7 +98,7 @@ module _ (remaining rest : Option (List ℕ)) where
   ReadsNoFrame (Talk (Write error)) = ⊥
   ReadsNoFrame (Talk Internal) = ⊥
 
--- after this number of requests the next one was not served. Internal: its number, counted from 1, is not below 2^64.
+-- a request fails after this number of requests were served. Internal: its number, counted from 1, is not below 2^64.
 abbrev pub IsNotCountable : ℕ → FrameFault → Type 0
 IsNotCountable served (Talk Internal) = 2 ^ 64 ≤ served + 1
 IsNotCountable served other = Unit {0}
@@ -187,13 +187,6 @@ pub record Counter : Type 0 where
 -- one request is served, which leads from one state to another
 abbrev pub ServesAt : Counter → Result Bool FrameFault → Counter → Type 0
 ServesAt from answer to = Serves from.left to.left from.held to.held from.history answer to.history
-
--- the words that report a fault
-abbrev pub frame_words : FrameFault → List ℕ
-frame_words NoNumber = codes "the line before a request is not a number of 1 to 10 digits"
-frame_words TooLarge = codes "a request has more than 268435456 bytes"
-frame_words Cut = codes "the input ends inside a request"
-frame_words (Talk fault) = talk_fault_words fault
 
 -- the exit status for a fault
 abbrev pub frame_status : FrameFault → ℕ

@@ -6,41 +6,39 @@ use Rattle.camp_base.specs.Signs.{newline, space}
 use Rattle.camp_call.specs.Calls.{IsCall}
 use Rattle.camp_call.specs.declared.calls.Call.{Call}
 use Rattle.camp_call.specs.declared.replies.Refusal.{Refusal}
-use Rattle.camp_call.specs.declared.replies.Refusal.TheVariants as refusal
 use Rattle.camp_call.specs.declared.replies.Reply.TheVariants.{Refused}
 use Rattle.camp_object.specs.Books.{IsEarlier, new_book, replay_book}
 use Rattle.camp_repo.specs.Lawful.{IsLawfulState}
 use Rattle.camp_repo.specs.Objects.{repository}
 use Rattle.camp_repo.specs.States.{Contents}
 use Rattle.camp_repo.specs.Steps.{refused, step}
-use Rattle.camp_script.specs.Canonical.{AreNames, IsScriptCall, call_text}
+use Rattle.camp_script.specs.Canonical.{IsScriptCall, call_text}
 use Rattle.camp_script.specs.Keeping.{calls_of, kept_text}
 use Rattle.camp_script.specs.Lines.{lines_of}
 use Rattle.camp_script.specs.Texts.{reply_text}
 use Rattle.camp_script.specs.Words.{count_of}
 use Rattle.camp_script.specs.declared.faults.FaultKind.{FaultKind}
 use Rattle.camp_script.specs.declared.faults.LineFault.{LineFault}
-use Rattle.camp_talk.specs.Diagnostics.{Diagnostic, advanced, begins_command, is_recovering, may_be, recovery_of_line}
-use Rattle.camp_talk.specs.Obstacles.{absent_sides, call_about, lack_text, lacked_text, no_branch_text, sides_text, target}
-use Rattle.camp_talk.specs.Answers.{AnswersCommand, SessionState, memory_text}
+use Rattle.camp_talk.specs.Diagnostics.{Diagnostic, advanced, begins_command, fault_diagnostic, fault_found, is_recovering, is_unknown, line_at, may_be, may_record, recovery_of_line, refused_diagnostic}
+use Rattle.camp_talk.specs.Answers.{AnswersCommand, SessionState, memory_text, reports_failure}
 use Rattle.camp_talk.specs.Parsing.{first_of, parsed_command}
-use Rattle.camp_talk.specs.Cutting.{IsLine, lines_in, longest_read}
+use Rattle.camp_talk.specs.Cutting.{IsLine, longest_read}
 use Rattle.camp_talk.specs.Dialogues.{StepsLead}
 use Rattle.camp_talk.specs.Entries.{Entries}
 use Rattle.camp_talk.specs.Frames.{BeginsNoFrame, Counter, EndsWithin, HasNoFrame, ServesAt, ServesInTurn, most_bytes}
-use Rattle.camp_talk.specs.Loads.{Loads, reports_failure}
-use Rattle.camp_talk.specs.Refusals.{reason_of, saying}
+use Rattle.camp_talk.specs.Loads.{Loads}
 use Rattle.camp_talk.specs.QuestionAnswers.{counted}
-use Rattle.camp_talk.specs.Reports.{cause_found, cause_text, cure_at, cut_off, diagnostic_of, fault_lines, hint_text, is_unknown, line_at, may_record, recovery_text, refusal_report, rule, shown_line, word_report}
+use Rattle.camp_talk.specs.declared.diagnostics.FailureCause.TheVariants as failure
 use Rattle.camp_talk.specs.declared.faults.LoadFault.TheVariants.{Answer, Memory, Talk}
 use Rattle.camp_talk.specs.declared.faults.LoadFault.{LoadFault}
 use Rattle.camp_talk.specs.declared.questions.ParsedCommand.TheVariants as parsed
 use Rattle.camp_talk.specs.declared.questions.ParsedCommand.{ParsedCommand}
-use Rattle.camp_why.specs.Causes.{IsSo, refusal_by}
+use Rattle.camp_why.specs.Causes.{IsSo, explained, refusal_by}
 use Rattle.camp_why.specs.Grounds.{IsGround}
-use Rattle.camp_why.specs.Hints.{hint}
+use Rattle.camp_why.specs.Hints.{HintIsTrue}
 use Rattle.camp_why.specs.Laws.{ChangesAreInRange, wants_cause}
 use Rattle.camp_why.specs.declared.causes.Cause.{Cause}
+use Rattle.camp_why.specs.declared.hints.Hint.{Hint}
 
 -- the first line of a counted text has its word and the number of lines that follow, and these are the lines of the
 -- text
@@ -101,72 +99,41 @@ KeepRestoresHistory =
     (rest : Option (List ℕ)) (result : Result (Unit {0}) LoadFault) (now : Entries) →
     Loads (Some (kept_text history.calls)) rest (new_book history.first) result now → RestoresHistory history state result now
 
--- the lines after a refusal of a call give a cause, which begins with this line: it explains that refusal, what it says
--- of the call and the state is true, and it comes after the branches that the call names, between the meaning of the
--- refusal and the hint
-pub record NamesCause (state : Contents) (call : Call) (refusal : Refusal) (line lines : List ℕ) : Type 0 where
+-- the diagnostic of a refused call has a cause: it is one of that refusal, and what it says of the call and the state is
+-- true
+pub record NamesCause (state : Contents) (call : Call) (refusal : Refusal) (line : List ℕ) (diagnostic : Diagnostic) : Type 0 where
   pub cause : Cause
   pub of : refusal_by cause ≡ refusal
   pub is_so : IsSo state call cause
-  pub reports : lines ≡ reply_text (Refused refusal) ++ shown_line line ++ saying (reason_of refusal)
-      ++ (sides_text (Some (call_about call)) (target (parsed.Call call)) ++ cause_text cause)
-      ++ cure_at state (parsed.Call call) (Some cause) (reason_of refusal)
+  pub keeps : diagnostic.failed ≡ Some (record { line = line; cause = failure.Refused refusal (parsed.Call call) state (Some cause) })
 
--- if a state refuses the call of a command because of a limit or its changes, the lines after the refusal give a cause
+-- if a state refuses a call because of a limit or its changes, its diagnostic has a cause
 abbrev pub CausesAreReported : Type 0
 CausesAreReported =
-    (before : Diagnostic) (state : Contents) (command : List ℕ) (call : Call) (refusal : Refusal) → IsLawfulState state → IsCall call →
-    ChangesAreInRange call → parsed_command command ≡ Ok (parsed.Call call) → step state call ≡ refused refusal →
-    wants_cause call refusal ≡ true → NamesCause state call refusal (first_of (lines_in command)) (diagnostic_of before state command (reply_text (Refused refusal))).report
+    (state : Contents) (line : List ℕ) (call : Call) (refusal : Refusal) → IsLawfulState state → IsCall call →
+    ChangesAreInRange call → step state call ≡ refused refusal → wants_cause call refusal ≡ true →
+    NamesCause state call refusal line (refused_diagnostic state line (parsed.Call call) refusal)
 
--- the names in a refusal
-abbrev pub refusal_names : Refusal → List (List ℕ)
-refusal_names (refusal.NoBranch branch) = branch ∷ []
-refusal_names (refusal.BranchExists branch) = branch ∷ []
-refusal_names (refusal.PatchExists name) = name ∷ []
-refusal_names (refusal.NoPatch name) = name ∷ []
-refusal_names refusal.NothingToDo = []
-refusal_names refusal.TooLarge = []
-refusal_names refusal.DoesNotApply = []
-refusal_names (refusal.Depends patch on) = patch ∷ on ∷ []
-refusal_names (refusal.Diverged name) = name ∷ []
-refusal_names (refusal.NoMerge left right) = left ∷ right ∷ []
-refusal_names (refusal.SameBranch branch) = branch ∷ []
-
--- the report on a refusal about a name says so: there is no branch of that name, or a branch lacks the patch of that
--- name
-abbrev pub ReportsName : Contents → Call → Refusal → Type 0
-ReportsName state call (refusal.NoBranch name) =
-    (front : List ℕ) × (back : List ℕ)
-    × (absent_sides state (Some (call_about call)) (target (parsed.Call call)) ≡ front ++ no_branch_text name ++ back)
-ReportsName state call (refusal.NoPatch name) =
-    lacked_text state (parsed.Call call) (Some (call_about call)) ≡ lack_text state (call_about call).1 (Some name)
-ReportsName state call other = Unit {0}
-
--- the lines after a refusal of a call, which begin with this line, describe it: what it says is true, and the lines are
--- its answer, that line, the meaning of its number, the branches that the call names, what exists and what does not,
--- and the hint
-pub record DescribesRefusal (state : Contents) (call : Call) (refusal : Refusal) (line lines : List ℕ) : Type 0 where
+-- the diagnostic of a refused call has its refusal, the call, the state, and the cause that the refusal does not say, if
+-- there is one; and what the refusal says of the call at the state is true
+pub record DescribesRefusal (state : Contents) (call : Call) (refusal : Refusal) (line : List ℕ) (diagnostic : Diagnostic) : Type 0 where
   pub ground : IsGround state call refusal
-  pub named : ReportsName state call refusal
-  pub reports : lines ≡ refusal_report state (parsed.Call call) line (reply_text (Refused refusal))
-      (cause_found state (parsed.Call call) (reason_of refusal)) (reason_of refusal)
+  pub keeps : diagnostic.failed
+      ≡ Some (record { line = line; cause = failure.Refused refusal (parsed.Call call) state (explained state call refusal) })
 
--- if a state refuses the call of a command, the lines after the refusal describe it
+-- if a state refuses a call, its diagnostic describes the refusal
 abbrev pub RefusalsAreDescribed : Type 0
 RefusalsAreDescribed =
-    (before : Diagnostic) (state : Contents) (command : List ℕ) (call : Call) (refusal : Refusal) → IsLawfulState state → IsCall call →
-    ChangesAreInRange call → AreNames (refusal_names refusal) → parsed_command command ≡ Ok (parsed.Call call) → step state call ≡ refused refusal →
-    DescribesRefusal state call refusal (first_of (lines_in command)) (diagnostic_of before state command (reply_text (Refused refusal))).report
+    (state : Contents) (line : List ℕ) (call : Call) (refusal : Refusal) → IsLawfulState state → IsCall call →
+    ChangesAreInRange call → step state call ≡ refused refusal →
+    DescribesRefusal state call refusal line (refused_diagnostic state line (parsed.Call call) refusal)
 
--- the lines after a command with a fault describe it: its answer, the line that has the fault, as much as is shown of
--- it, which word is wrong, the hint on the line, the rule, and which lines after it are taken for its own
-pub record DescribesFault (fault : LineFault) (command answer lines : List ℕ) : Type 0 where
-  pub line : List ℕ
-  pub is : line ≡ line_at fault.line (lines_in command)
-  pub reports : lines ≡ answer ++ shown_line line ++ word_report fault.kind line
-      ++ hint_text (hint fault.kind line) ++ rule fault.kind
-      ++ recovery_text (cut_off fault.line fault.kind (first_of (lines_in command)))
+-- the diagnostic of a command with a fault has the number of lines before it, the fault, the line that has it, and a hint
+-- on that line, which is true
+pub record DescribesFault (before : ℕ) (fault : LineFault) (lines : List (List ℕ)) (diagnostic : Diagnostic) : Type 0 where
+  pub hint : Hint
+  pub is_true : HintIsTrue fault.kind (line_at fault.line lines) hint
+  pub keeps : diagnostic.failed ≡ Some (record { line = line_at fault.line lines; cause = failure.Fault before fault hint })
 
 -- a command with a fault is taken for a line of the cut-off command before it: it may be one, and begins no command
 abbrev pub IsLineOf : Diagnostic → FaultKind → List ℕ → Type 0
@@ -178,35 +145,34 @@ abbrev pub IsOfItsOwn : Diagnostic → FaultKind → List ℕ → Type 0
 IsOfItsOwn before kind line =
     (may_be before.recovery line ≡ false) ⊎ ((is_unknown kind ≡ false) ⊎ (begins_command line ≡ true))
 
--- if a command has a fault of its own, the lines after it describe it; if it is taken for a line of the command before
--- it, the diagnostic of that one stays, and only the kind of lines that may come changes
+-- if a command has a fault of its own, its diagnostic describes it; if it is taken for a line of the one before it, the
+-- diagnostic of that one stays, and only the lines that may come change
 pub record FaultsAreDescribed : Type 0 where
-  pub own : (before : Diagnostic) (state : Contents) (command answer : List ℕ) (fault : LineFault) → parsed_command command ≡ Err fault →
-      IsOfItsOwn before fault.kind (first_of (lines_in command)) →
-      DescribesFault fault command answer (diagnostic_of before state command answer).report
-  pub line : (before : Diagnostic) (state : Contents) (command answer : List ℕ) (fault : LineFault) → parsed_command command ≡ Err fault →
-      IsLineOf before fault.kind (first_of (lines_in command)) →
-      diagnostic_of before state command answer ≡ advanced before (first_of (lines_in command))
+  pub own : (diagnostic : Diagnostic) (before : ℕ) (fault : LineFault) (lines : List (List ℕ)) →
+      IsOfItsOwn diagnostic fault.kind (first_of lines) →
+      DescribesFault before fault lines (fault_diagnostic diagnostic before fault lines)
+  pub line : (diagnostic : Diagnostic) (before : ℕ) (fault : LineFault) (lines : List (List ℕ)) →
+      IsLineOf diagnostic fault.kind (first_of lines) →
+      fault_diagnostic diagnostic before fault lines ≡ advanced diagnostic (first_of lines)
 
--- the diagnostic of a command is that of a cut-off record: the fault is in its first line, which is that of a record or
--- may be; the lines describe it; and lines may come that follow such a line
-pub record IsCutOff (command answer : List ℕ) (now : Diagnostic) : Type 0 where
-  pub fault : LineFault
-  pub asks : parsed_command command ≡ Err fault
+-- the diagnostic of a command is that of a record that was cut off: the command has a fault in its first line, which is
+-- one of a record, or may be; and those lines may come that follow such a line
+pub record IsCutOff (before : ℕ) (fault : LineFault) (lines : List (List ℕ)) (now : Diagnostic) : Type 0 where
   pub first : fault.line ≡ 1
-  pub is : may_record fault.kind (first_of (lines_in command)) ≡ true
-  pub reports : now.report ≡ fault_lines fault.kind (first_of (lines_in command)) answer now.recovery
-  pub awaits : now.recovery ≡ recovery_of_line (first_of (lines_in command))
+  pub is : may_record fault.kind (first_of lines) ≡ true
+  pub keeps : now.failed ≡ Some (fault_found before fault (first_of lines))
+  pub awaits : now.recovery ≡ recovery_of_line (first_of lines)
 
--- the diagnostic from before waits for lines, and the command is taken for one of them: the report is the same
-pub record IsNextLine (before : Diagnostic) (command : List ℕ) (now : Diagnostic) : Type 0 where
-  pub fault : LineFault
-  pub asks : parsed_command command ≡ Err fault
-  pub taken : IsLineOf before fault.kind (first_of (lines_in command))
-  pub is : now ≡ advanced before (first_of (lines_in command))
+-- the diagnostic from before waits for a line, and the command is taken for it: the same command stays
+pub record IsNextLine (diagnostic : Diagnostic) (fault : LineFault) (lines : List (List ℕ)) (now : Diagnostic) : Type 0 where
+  pub taken : IsLineOf diagnostic fault.kind (first_of lines)
+  pub is : now ≡ advanced diagnostic (first_of lines)
 
--- the diagnostic of a command that is not done waits for lines only in these two cases
+-- the diagnostic of a command with a fault waits for lines only if it is that of a cut-off record, or the command is
+-- one of the lines that were waited for
 abbrev pub RecoveryFollowsCutOff : Type 0
 RecoveryFollowsCutOff =
-    (before : Diagnostic) (state : Contents) (command answer : List ℕ) → is_recovering (diagnostic_of before state command answer).recovery ≡ true →
-    IsCutOff command answer (diagnostic_of before state command answer) ⊎ IsNextLine before command (diagnostic_of before state command answer)
+    (diagnostic : Diagnostic) (before : ℕ) (fault : LineFault) (lines : List (List ℕ)) →
+    is_recovering (fault_diagnostic diagnostic before fault lines).recovery ≡ true →
+    IsCutOff before fault lines (fault_diagnostic diagnostic before fault lines)
+    ⊎ IsNextLine diagnostic fault lines (fault_diagnostic diagnostic before fault lines)

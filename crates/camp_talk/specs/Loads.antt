@@ -1,19 +1,14 @@
 -- Loading commands: each is executed as in a conversation, and has to succeed.
-use Rattle.std.specs.Prelude.{◌≡◌, ℕ, ◌+◌, Bool, true, false, ◌||◌, List, Option, Result, Ok, Err, codes}
+use Rattle.std.specs.Prelude.{◌≡◌, ℕ, ◌+◌, Bool, true, false, List, Option, Result, Ok, Err}
 use Rattle.std.specs.List.{All, flat_map}
 use Rattle.std.specs.Io.KnownBytes.{Consumes}
 use Rattle.camp_talk.specs.Diagnostics.{no_diagnostic}
-use Rattle.camp_talk.specs.Answers.{AnswersCommand, AnswersParsed, SessionState, is_silent, memory_text}
+use Rattle.camp_talk.specs.Answers.{AnswersCommand, AnswersParsed, SessionState, is_silent, reports_failure}
 use Rattle.camp_talk.specs.Parsing.{parsed_command}
 use Rattle.camp_talk.specs.Entries.{Entries}
 use Rattle.camp_talk.specs.Talks.{AnswersInOrder, Exchange, ReadsCommand, ReadsNone}
 use Rattle.camp_talk.specs.declared.faults.LoadFault.{LoadFault}
 use Rattle.camp_talk.specs.declared.faults.LoadFault.TheVariants.{Answer, Memory, Talk}
-use Rattle.camp_why.specs.Hints.{begins}
-
--- an answer says that its command was not done: it is a fault, a refusal or out of memory
-abbrev pub reports_failure : List ℕ → Bool
-reports_failure answer = begins (codes "fault ") answer || begins (codes "refused ") answer || begins memory_text answer
 
 -- an answer says that its command was done, or that nothing was asked
 abbrev pub ReportsSuccess : List ℕ → Type 0
@@ -63,8 +58,8 @@ module _ (remaining rest : Option (List ℕ)) where
   Ends before (Err (Memory line)) now = LacksMemory before line now
   Ends before (Err (Talk why)) now = ReadsNone remaining rest before why × (now ≡ before.history)
 
--- a load, which begins with the accepted calls of a book and before the first line: commands were done, one after the
--- other; after Ok the input has ended, else the next command was not done
+-- loading a text into a book: commands were done, one after the other, from the first line on. Ok: the input has ended;
+-- else the next command was not done
 pub record Loads (remaining rest : Option (List ℕ)) (history : Entries) (result : Result (Unit {0}) LoadFault) (now : Entries)
     : Type 0 where
   pub left : Option (List ℕ)

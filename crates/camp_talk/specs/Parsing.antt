@@ -4,14 +4,12 @@ use Rattle.std.specs.List.{find}
 use Rattle.camp_call.specs.declared.calls.Call.{Call}
 use Rattle.camp_talk.specs.Cutting.{lines_in, script_in}
 use Rattle.camp_script.specs.Faults.{fault_at}
-use Rattle.camp_script.specs.Lines.{lines_of, words_of}
-use Rattle.camp_script.specs.Pieces.{begins_with}
+use Rattle.camp_script.specs.Lines.{words_of}
 use Rattle.camp_script.specs.Words.{name_at, names_at, no_words, one_word, path_at, two_words}
 use Rattle.camp_base.specs.Results.{◌>>=◌}
 use Rattle.camp_script.specs.declared.faults.FaultKind.TheVariants.{BadNumber, UnknownCommand, WrongNumberOfWords}
 use Rattle.camp_script.specs.declared.faults.LineFault.{LineFault}
-use Rattle.camp_talk.specs.Help.{commands, example}
-use Rattle.camp_talk.specs.Refusals.{reason_number, reasons}
+use Rattle.camp_talk.specs.Topics.{topic_word, commands, reason_number, reasons}
 use Rattle.camp_talk.specs.declared.questions.ParsedCommand.{ParsedCommand}
 use Rattle.camp_talk.specs.declared.questions.ParsedCommand.TheVariants as parsed
 use Rattle.camp_talk.specs.declared.questions.Reason.{Reason}
@@ -59,9 +57,9 @@ abbrev pub first_of : List (List ℕ) → List ℕ
 first_of [] = []
 first_of (first ∷ rest) = first
 
--- the first command whose example begins with this word
+-- the first of some commands that a word begins
 abbrev pub first_begun : List ℕ → List Topic → Option Topic
-first_begun word commands = find (λ command. begins_with word (words_of (first_of (lines_of (example command))))) commands
+first_begun word commands = find (λ command. bytes_eq (topic_word command) word) commands
 
 -- a command that was found, else the fault of a word that begins no command
 abbrev pub topic_of : Option Topic → Result Topic LineFault

@@ -19,9 +19,9 @@ use Rattle.camp_questions.specs.Files.{IsFile, branch_names}
 use Rattle.camp_questions.specs.Foresight.{Foresees}
 use Rattle.camp_questions.specs.GraphTexts.{graph_text}
 use Rattle.camp_questions.specs.Marks.{AreMarked}
-use Rattle.camp_questions.specs.OpenConflicts.{AreOpen}
+use Rattle.camp_questions.specs.OpenConflicts.{AreUnresolved}
 use Rattle.camp_questions.specs.Pictures.{IsPictured, Picture}
-use Rattle.camp_questions.specs.Places.{File as MarkedFile, MarkedHunk}
+use Rattle.camp_questions.specs.MarkHunks.{File as MarkedFile, MarkedHunk}
 use Rattle.camp_questions.specs.Showing.{IsShown, PatchContents}
 use Rattle.camp_questions.specs.Sides.{IsSide}
 use Rattle.camp_questions.specs.declared.annotations.Annotated.{Annotated}
@@ -40,25 +40,26 @@ use Rattle.camp_script.specs.Lines.{lines_of}
 use Rattle.camp_script.specs.Signs.{equals_sign, plus_sign}
 use Rattle.camp_script.specs.Texts.{conflicts_text, line_text, name_text, pair_text, reply_text, signed_line, tree_text}
 use Rattle.camp_talk.specs.Entries.{Entries}
-use Rattle.camp_talk.specs.Help.{help_text}
 use Rattle.camp_talk.specs.declared.questions.Question.{Question}
 use Rattle.camp_talk.specs.declared.questions.Question.TheVariants as question
-use Rattle.camp_talk.specs.declared.questions.Topic.{Topic}
 
 -- a counted text: after a line with the word of its command and the number of its lines
 abbrev pub counted : List ℕ → List ℕ → List ℕ
 counted word text = word ++ space ∷ decimal (length (lines_of text)) ++ newline ∷ text
 
--- the text of the result of a question: its answer, or its refusal as that of a call
-abbrev pub answer_or_refusal : {A : Type 0} → (A → List ℕ) → AnswerOf A → List ℕ
-answer_or_refusal text_of (Ok answer) = text_of answer
-answer_or_refusal text_of (Err refusal) = reply_text (Refused refusal)
+-- the answer to a question is rendered, or it is refused
+abbrev pub RendersAnswer : {A : Type 0} → (A → List ℕ) → (AnswerOf A → Type 0) → AnswerOf (List ℕ) → Type 0
+RendersAnswer {A} text_of IsAnswer (Ok text) = (answer : A) × IsAnswer (Ok answer) × (text ≡ text_of answer)
+RendersAnswer text_of IsAnswer (Err refusal) = IsAnswer (Err refusal)
 
--- this text reports the result of a question
-pub record RendersAnswer {A : Type 0} (text_of : A → List ℕ) (IsAnswer : AnswerOf A → Type 0) (text : List ℕ) : Type 0 where
-  pub answer : AnswerOf A
-  pub is_answer : IsAnswer answer
-  pub reports : text ≡ answer_or_refusal text_of answer
+-- the text of an answer, or of a refusal
+abbrev pub text_in : AnswerOf (List ℕ) → List ℕ
+text_in (Ok text) = text
+text_in (Err refusal) = reply_text (Refused refusal)
+
+-- this text is that of an answer, or of a refusal
+abbrev pub TextAnswers : (AnswerOf (List ℕ) → Type 0) → List ℕ → Type 0
+TextAnswers IsAnswer text = (answer : AnswerOf (List ℕ)) × IsAnswer answer × (text ≡ text_in answer)
 
 -- names, each on a line, as a counted text
 abbrev pub names_answer : List ℕ → List (List ℕ) → List ℕ
@@ -150,37 +151,37 @@ foreseen_answer seen = counted (codes "whatif") (reply_text seen.reply ++ standi
 abbrev pub keep_answer : List (ℕ × Call) → List ℕ
 keep_answer history = counted (codes "keep") (kept_text history)
 
--- the forms of commands, or the meanings of refusals, as a counted text
-abbrev pub help_answer : Topic → List ℕ
-help_answer topic = counted (codes "help") (help_text topic)
+-- lines about commands or refusals, after `help` and their number
+abbrev pub IsHelp : List ℕ → Type 0
+IsHelp text = (lines : List ℕ) × (text ≡ counted (codes "help") lines)
 
--- the text of the answer to each question, at the state that a history leads to
-abbrev pub AnswersQuestionAt : List (ℕ × Call) → Contents → Question → List ℕ → Type 0
-AnswersQuestionAt history state (question.Needs branch names) text =
-    RendersAnswer (names_answer (codes "needs")) (AreNeeded state branch names) text
-AnswersQuestionAt history state (question.Held branch names) text =
-    RendersAnswer (names_answer (codes "held")) (AreHeldBy state branch names) text
-AnswersQuestionAt history state (question.Missing from to) text =
-    RendersAnswer (names_answer (codes "missing")) (IsMissing state from to) text
-AnswersQuestionAt history state (question.Show branch name) text = RendersAnswer patch_answer (IsShown state branch name) text
-AnswersQuestionAt history state (question.Annotate branch path) text =
-    RendersAnswer annotated_answer (AreAnnotated state branch path) text
-AnswersQuestionAt history state (question.Along from to names) text =
-    RendersAnswer (names_answer (codes "along")) (AreAlong state from to names) text
-AnswersQuestionAt history state (question.Open branch) text = RendersAnswer open_answer (AreOpen state branch) text
-AnswersQuestionAt history state (question.Side branch name) text = RendersAnswer side_answer (IsSide state branch name) text
-AnswersQuestionAt history state (question.Marks branch path) text = RendersAnswer marks_answer (AreMarked state branch path) text
-AnswersQuestionAt history state (question.File branch path) text = RendersAnswer file_answer (IsFile state branch path) text
-AnswersQuestionAt history state question.Branches text =
-    text ≡ names_answer (codes "branches") (branch_names state)
-AnswersQuestionAt history state (question.Graph branch names) text = RendersAnswer graph_answer (IsPictured state branch names) text
-AnswersQuestionAt history state (question.WhatIf call) text =
-    (seen : Foreseen) × Foresees state call seen × (text ≡ foreseen_answer seen)
-AnswersQuestionAt history state question.History text = text ≡ history_text history
-AnswersQuestionAt history state question.Keep text = text ≡ keep_answer history
-AnswersQuestionAt history state (question.Help topic) text = text ≡ help_answer topic
+-- the answer to each question, at the state after a history, or its refusal
+abbrev pub AnswersQuestionAt : List (ℕ × Call) → Contents → Question → AnswerOf (List ℕ) → Type 0
+AnswersQuestionAt history state (question.Needs branch names) answer =
+    RendersAnswer (names_answer (codes "needs")) (AreNeeded state branch names) answer
+AnswersQuestionAt history state (question.Held branch names) answer =
+    RendersAnswer (names_answer (codes "held")) (AreHeldBy state branch names) answer
+AnswersQuestionAt history state (question.Missing from to) answer =
+    RendersAnswer (names_answer (codes "missing")) (IsMissing state from to) answer
+AnswersQuestionAt history state (question.Show branch name) answer = RendersAnswer patch_answer (IsShown state branch name) answer
+AnswersQuestionAt history state (question.Annotate branch path) answer =
+    RendersAnswer annotated_answer (AreAnnotated state branch path) answer
+AnswersQuestionAt history state (question.Along from to names) answer =
+    RendersAnswer (names_answer (codes "along")) (AreAlong state from to names) answer
+AnswersQuestionAt history state (question.Open branch) answer = RendersAnswer open_answer (AreUnresolved state branch) answer
+AnswersQuestionAt history state (question.Side branch name) answer = RendersAnswer side_answer (IsSide state branch name) answer
+AnswersQuestionAt history state (question.Marks branch path) answer = RendersAnswer marks_answer (AreMarked state branch path) answer
+AnswersQuestionAt history state (question.File branch path) answer = RendersAnswer file_answer (IsFile state branch path) answer
+AnswersQuestionAt history state question.Branches answer =
+    answer ≡ Ok (names_answer (codes "branches") (branch_names state))
+AnswersQuestionAt history state (question.Graph branch names) answer = RendersAnswer graph_answer (IsPictured state branch names) answer
+AnswersQuestionAt history state (question.WhatIf call) answer =
+    (seen : Foreseen) × Foresees state call seen × (answer ≡ Ok (foreseen_answer seen))
+AnswersQuestionAt history state question.History answer = answer ≡ Ok (history_text history)
+AnswersQuestionAt history state question.Keep answer = answer ≡ Ok (keep_answer history)
+AnswersQuestionAt history state (question.Help topic) answer = (text : List ℕ) × IsHelp text × (answer ≡ Ok text)
 
 -- the result of a question, at the state that a history leads to
-abbrev pub AnswersQuestion : Entries → Question → List ℕ → Type 0
-AnswersQuestion history question text =
-    (state : Contents) × (replay_book repository history ≡ Some state) × AnswersQuestionAt history.calls state question text
+abbrev pub AnswersQuestion : Entries → Question → AnswerOf (List ℕ) → Type 0
+AnswersQuestion history question answer =
+    (state : Contents) × (replay_book repository history ≡ Some state) × AnswersQuestionAt history.calls state question answer

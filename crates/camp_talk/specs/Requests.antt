@@ -24,7 +24,7 @@ pub record AnswersRequest (history : Entries) (request answer : List ℕ) (now :
   pub asks : request ≡ flat_map (λ exchange. exchange.command) exchanges ++ last.command
   pub reports : answer ≡ flat_map (λ exchange. exchange.answer) exchanges ++ last.answer
 
--- bytes of at most one command count as one, unless there are none
+-- the number of commands in bytes of at most one command: 0 if there are no bytes, else 1
 abbrev pub one_unless_empty : List ℕ → ℕ
 one_unless_empty [] = 0
 one_unless_empty bytes = 1
@@ -39,8 +39,8 @@ pub record HasCommands (request : List ℕ) (count : ℕ) : Type 0 where
   pub parts : request ≡ flat_map (λ command. command) whole ++ left
   pub counts : count ≡ length whole + one_unless_empty left
 
--- the next command of a request was executed, or what its end leaves of one, but its answer is not there; this number
--- of commands were executed before it
+-- the next command of a request was executed, perhaps one that the end of the request cuts off, but its answer is lost;
+-- `before` commands are settled before it
 pub record LosesAnswer (middle : SessionState) (rest : List ℕ) (now : Entries) (before executed : ℕ) : Type 0 where
   pub last : Exchange
   pub more : List ℕ
@@ -49,8 +49,10 @@ pub record LosesAnswer (middle : SessionState) (rest : List ℕ) (now : Entries)
   pub asks : rest ≡ last.command ++ more
   pub counts : executed ≡ before + one_unless_empty last.command
 
--- exactly the first commands of a request were executed, this number of them, one after the other. Their answers are
--- there, but perhaps that of the last one.
+-- exactly the first commands of a request are settled, this number of them, one after the other: each was executed, or is
+-- answered `memory` and has changed nothing. Their answers are there, but perhaps that of the last one. The history
+-- determines how many calls that write are among them; a blank line, a comment or a question at the end changes nothing,
+-- and may be counted or not.
 pub record AnswersSome (history : Entries) (request answer : List ℕ) (now : Entries) (executed : ℕ) : Type 0 where
   pub exchanges : List Exchange
   pub middle : SessionState

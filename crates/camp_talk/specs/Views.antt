@@ -10,11 +10,11 @@ use Rattle.camp_repo.specs.Steps.{step}
 use Rattle.camp_script.specs.Lines.{lines_of}
 use Rattle.camp_script.specs.Texts.{reply_text}
 use Rattle.camp_script.specs.declared.faults.LineFault.{LineFault}
-use Rattle.camp_talk.specs.Answers.{fault_text}
+use Rattle.camp_talk.specs.FaultTexts.{fault_text}
 use Rattle.camp_talk.specs.Parsing.{parsed_command}
 use Rattle.camp_talk.specs.Cutting.{IsCommand, IsLeft}
 use Rattle.camp_talk.specs.Talks.{Exchange}
-use Rattle.camp_talk.specs.QuestionAnswers.{AnswersQuestionAt}
+use Rattle.camp_talk.specs.QuestionAnswers.{AnswersQuestionAt, TextAnswers}
 use Rattle.camp_talk.specs.declared.questions.ParsedCommand.{ParsedCommand}
 use Rattle.camp_talk.specs.declared.questions.ParsedCommand.TheVariants as parsed
 use Rattle.camp_talk.specs.declared.questions.Question.{Question}
@@ -46,7 +46,7 @@ shown_reply state call = reply_text (reply_of (step state call))
 abbrev pub ShowsParsed : Contents → ParsedCommand → List ℕ → Type 0
 ShowsParsed state parsed.Nothing text = text ≡ []
 ShowsParsed state (parsed.Call call) text = text ≡ shown_reply state call
-ShowsParsed state (parsed.Question question) text = AnswersQuestionAt [] state question text
+ShowsParsed state (parsed.Question question) text = TextAnswers (AnswersQuestionAt [] state question) text
 ShowsParsed state parsed.Why text = ⊥
 
 -- whether a view does not answer the parsed command of a line

@@ -1,15 +1,12 @@
 //! Parts of the answers to questions.
-ghost use Rattle.std.specs.Prelude.{◌≡◌, ◌++◌, IfOk, MatchResult, OnOk, string_bytes};
+ghost use Rattle.std.specs.Prelude.{◌≡◌, ◌++◌, IfOk, MatchResult, OnOk};
 ghost use Rattle.std.specs.List.{flat_map};
 ghost use Rattle.camp_script.specs.Texts.{reply_text};
-ghost use Rattle.camp_questions.specs.declared.faults.Unanswered.TheVariants as fault;
 ghost use Rattle.camp_call.specs.declared.replies.Reply.TheVariants as reply;
-ghost use Rattle.camp_call.specs.declared.replies.Refusal.{Refusal as SpecRefusal};
 ghost use Rattle.camp_talk.specs.QuestionAnswers.{counted};
 
 use crate::readings::count_lines;
-use camp_questions::Unanswered;
-use camp_repo::Reply;
+use camp_repo::{Refusal, Reply};
 use camp_script::answer_text;
 use itoa::Buffer;
 use std::alloc::{AllocError, Global};
@@ -32,13 +29,6 @@ pub(crate) fn counted_text(
     ensures { IfOk result (λ whole. MatchResult text (λ text. whole.items ≡ counted word.now text.items) (λ _. ⊥)) }
 {
     counted(alloc, word, &text?)
-}
-
-/// Returns the bytes of words, unless memory ran out for them.
-pub(crate) fn made(words: Result<String, AllocError>) -> Result<Vec<u8>, AllocError>
-    ensures { IfOk result (λ text. MatchResult words (λ words. text.items ≡ string_bytes words) (λ _. ⊥)) }
-{
-    Ok(words?.into_bytes())
 }
 
 /// Joins parts, one after the other.
@@ -72,12 +62,9 @@ pub(crate) fn append_parts(text: &mut Vec<u8>, parts: &[&[u8]]) -> Result<(), Al
     Ok(())
 }
 
-/// Renders the refusal of a question. Out of memory has no text.
-pub(crate) fn unanswered(alloc: Global, why: Unanswered) -> Result<Vec<u8>, AllocError>
-    ensures { IfOk result (λ text. (refusal : SpecRefusal) × (why ≡ fault.Refused refusal) × (text.items ≡ reply_text (reply.Refused refusal))) }
+/// Renders a refusal.
+pub(crate) fn refusal_text(alloc: Global, refusal: &Refusal) -> Result<Vec<u8>, AllocError>
+    ensures { IfOk result (λ text. text.items ≡ reply_text (reply.Refused refusal.now)) }
 {
-    match why {
-        Unanswered::Refused(refusal) => answer_text(alloc, &Ok(Reply::Refused(refusal))),
-        Unanswered::Memory => Err(AllocError),
-    }
+    answer_text(alloc, &Ok(Reply::Refused(*refusal)))
 }

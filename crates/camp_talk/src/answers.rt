@@ -1,152 +1,193 @@
 //! The answers to commands.
-ghost use Rattle.std.specs.Prelude.{◌≡◌, ◌≢◌, ◌+◌, Result, Ok, true, IfOk, OnErr, MatchResult, length, ℕ};
+ghost use Rattle.std.specs.Prelude.{◌≡◌, ◌≢◌, ◌+◌, ℕ, false, Result, Err, Ok, IfOk, MatchResult, length};
 ghost use Rattle.std.specs.Io.KnownBytes.{Appends};
+ghost use Rattle.camp_call.specs.declared.replies.Reply.TheVariants as reply;
 ghost use Rattle.camp_script.specs.Gives.{Gives};
 ghost use Rattle.camp_script.specs.Lines.{lines_of};
-ghost use Rattle.camp_script.specs.Texts.{answer_text};
+ghost use Rattle.camp_script.specs.Texts.{reply_text};
 ghost use Rattle.camp_script.specs.declared.faults.LineFault.{LineFault as SpecFault};
-ghost use Rattle.camp_talk.specs.Answers.{AnswersParsed, Replies, fault_text};
-ghost use Rattle.camp_talk.specs.Inside.ExecutingNext.{UpdatesDiagnosticOf};
-ghost use Rattle.camp_talk.specs.Inside.Responses.{IsWriting, answer_or_memory};
+ghost use Rattle.camp_talk.specs.Answers.{asks_nothing};
+ghost use Rattle.camp_talk.specs.Entries.{Entries};
+ghost use Rattle.camp_talk.specs.Inside.ExecutingNext.{ExecutesRequest, RefusesRequest, RendersReply, RepliesTo, RespondsTo};
+ghost use Rattle.camp_talk.specs.Inside.Responses.{IsOutOfMemory, IsWriting, written};
 ghost use Rattle.camp_talk.specs.Talks.{AppendsSome};
-ghost use Rattle.camp_talk.specs.Reports.{is_failure};
 ghost use Rattle.camp_talk.specs.declared.questions.ParsedCommand.{ParsedCommand as SpecParsedCommand};
 
-use crate::answer_parts::joined;
-use crate::diagnostics::leaves_diagnostic;
-use crate::question_answers::answer_question;
+use crate::answer_parts::refusal_text;
+use crate::parsing::first_line;
+use crate::question_answers::answer_at;
 use crate::questions::ParsedCommand;
 use crate::readings::Command;
-use crate::why_reports::{diagnostic_of, is_failure, render_why};
+use crate::responses::{Failure, Response, fault_text};
+use crate::why_reports::render_why;
 use crate::{Diagnostic, TalkFault};
 use camp_object::Fault;
-use camp_repo::{Book, Call, Object, Reply, State};
-use camp_script::{FaultKind, ScriptFault, answer_text, write_text};
-use itoa::Buffer;
+use camp_questions::Unanswered;
+use camp_repo::{Book, Call, Refusal, Reply, State};
+use camp_script::{LineFault, ScriptFault, answer_text, write_text};
 use std::alloc::{AllocError, Global};
 use std::io;
 use std::io::Write;
 
-/// Executes a command and renders its answer, given the number of lines before it. If it is not done, `diagnostic`
-/// becomes its diagnostic. If memory runs out, the book and the diagnostic are unchanged; a command that asks nothing
-/// does not allocate.
+/// Executes a command, given the number of the lines before it. If it is not done, `diagnostic` becomes its
+/// diagnostic. If memory runs out the book and the diagnostic stay; a command that asks nothing does not
+/// allocate.
+#[tactic(auto, using(crate::proofs::StepLemmas::asks_something))]
 pub(crate) fn respond(
     alloc: Global,
     book: &mut Book<State>,
     before: u64,
     diagnostic: &mut Diagnostic,
-    command: &Command,
-) -> Result<Vec<u8>, AllocError>
-    ensures text { IfOk result (λ text. (reading : Result SpecParsedCommand SpecFault) → Gives command.now.parsed reading →
-        AnswersParsed (record { history = book.old; lines = before; diagnostic = diagnostic.old }) reading text.items book.new) }
-    ensures updates { IfOk result (λ text. (reading : Result SpecParsedCommand SpecFault) → Gives command.now.parsed reading →
-        UpdatesDiagnosticOf (record { history = book.old; lines = before; diagnostic = diagnostic.old })
-        (lines_of command.now.bytes.items) reading text.items diagnostic.new) }
-    ensures kept { OnErr result (book.new ≡ book.old) }
-    ensures same { OnErr result (diagnostic.new ≡ diagnostic.old) }
-    ensures nothing { OnErr result (command.now.parsed ≢ Ok SpecParsedCommand.Nothing) }
+    command: Command,
+) -> Response
+    ensures responds { (reading : Result SpecParsedCommand SpecFault) → Gives command.parsed reading →
+        RespondsTo (record { history = book.old; lines = before; diagnostic = diagnostic.old }) (lines_of command.bytes.items) reading
+        result book.new diagnostic.new }
+    ensures nothing { IsOutOfMemory result → command.parsed ≢ Ok SpecParsedCommand.Nothing }
 {
-    let text = answer(alloc, book, before, diagnostic, &command.parsed)?;
-    if is_failure(&text) {
-        *diagnostic = diagnostic_of(
-            alloc,
-            diagnostic,
-            book.state(),
-            &command.bytes,
-            &command.parsed,
-            &text,
-        )?;
-        return Ok(text);
+    let Command { bytes, parsed, .. } = command;
+    match parsed {
+        Ok(request) => respond_to_request(alloc, book, diagnostic, &bytes, request),
+        Err(ScriptFault::Line(fault)) => respond_to_fault(alloc, before, diagnostic, &bytes, fault),
+        Err(ScriptFault::Memory) => Response::OutOfMemory,
     }
-    if leaves_diagnostic(&text) {
-        return Ok(text);
-    }
-    diagnostic.close();
-    Ok(text)
 }
 
-// Renders the answer to a parsed command, given the number of the lines before it and the diagnostic of the
-// last fault or refusal.
-fn answer(
+// Responds to a command with a fault; `diagnostic` becomes that of the fault.
+#[tactic(auto, using(crate::proofs::StepLemmas::fault_responded))]
+fn respond_to_fault(
     alloc: Global,
-    book: &mut Book<State>,
     before: u64,
-    diagnostic: &Diagnostic,
-    parsed: &Result<ParsedCommand, ScriptFault>,
-) -> Result<Vec<u8>, AllocError>
-    ensures text { IfOk result (λ text. (reading : Result SpecParsedCommand SpecFault) → Gives parsed.now reading →
-        AnswersParsed (record { history = book.old; lines = before; diagnostic = diagnostic.now }) reading text.items book.new) }
-    ensures kept { OnErr result (book.new ≡ book.old) }
-    ensures failed { IfOk result (λ text. is_failure text.items ≡ true → book.new ≡ book.old) }
-    ensures nothing { OnErr result (parsed.now ≢ Ok SpecParsedCommand.Nothing) }
+    diagnostic: &mut Diagnostic,
+    command: &[u8],
+    fault: LineFault,
+) -> Response
+    ensures { (history : Entries) → RespondsTo (record { history = history; lines = before; diagnostic = diagnostic.old })
+        (lines_of command.now) (Err fault) result history diagnostic.new }
 {
-    match parsed {
-        Ok(parsed) => answer_parsed(alloc, book, diagnostic, parsed),
-        Err(ScriptFault::Line(fault)) => fault_text(alloc, before, fault.line, fault.kind),
-        Err(ScriptFault::Memory) => Err(AllocError),
+    let Ok(answer) = fault_text(alloc, before, fault.line, fault.kind) else {
+        return Response::OutOfMemory;
+    };
+    match diagnostic.set_fault(alloc, before, fault, command) {
+        Ok(()) => Response::Failed {
+            why: Failure::Fault(fault),
+            answer,
+        },
+        Err(_) => Response::OutOfMemory,
     }
 }
 
-fn answer_parsed(
+// Executes a request. If it is refused, `diagnostic` becomes its diagnostic.
+#[tactic(auto, using(crate::proofs::StepLemmas::nothing_responded))]
+fn respond_to_request(
+    alloc: Global,
+    book: &mut Book<State>,
+    diagnostic: &mut Diagnostic,
+    command: &[u8],
+    request: ParsedCommand,
+) -> Response
+    ensures responds { (before : ℕ) → RespondsTo (record { history = book.old; lines = before; diagnostic = diagnostic.old })
+        (lines_of command.now) (Ok request) result book.new diagnostic.new }
+    ensures nothing { IsOutOfMemory result → asks_nothing request ≡ false }
+{
+    if asks_nothing(&request) {
+        return Response::Done(Vec::new(alloc));
+    }
+    match execute(alloc, book, diagnostic, &request) {
+        Ok(answer) => {
+            diagnostic.close();
+            Response::Done(answer)
+        }
+        Err(Unanswered::Refused(refusal)) => {
+            let line = first_line(command);
+            refuse(alloc, book.state(), diagnostic, line, request, &refusal)
+        }
+        Err(Unanswered::Memory) => Response::OutOfMemory,
+    }
+}
+
+fn asks_nothing(request: &ParsedCommand) -> bool
+    ensures { result ≡ asks_nothing request.now }
+{
+    matches!(request, ParsedCommand::Nothing)
+}
+
+// Responds to a request that a state refused, given its first line; `diagnostic` becomes that of the request.
+fn refuse(
+    alloc: Global,
+    state: &State,
+    diagnostic: &mut Diagnostic,
+    line: &[u8],
+    request: ParsedCommand,
+    refusal: &Refusal,
+) -> Response
+    ensures { RefusesRequest state.now diagnostic.old line.now request refusal.now result diagnostic.new }
+{
+    let Ok(answer) = refusal_text(alloc, refusal) else {
+        return Response::OutOfMemory;
+    };
+    match diagnostic.set_refused(alloc, state, line, request, refusal) {
+        Ok(()) => Response::Failed {
+            why: Failure::Refused(*refusal),
+            answer,
+        },
+        Err(_) => Response::OutOfMemory,
+    }
+}
+
+// Executes a request and renders its answer, unless it is refused.
+#[tactic(auto, using(crate::proofs::StepLemmas::nothing_executes, crate::proofs::StepLemmas::call_executes, crate::proofs::StepLemmas::question_executes, crate::proofs::StepLemmas::why_executes))]
+fn execute(
     alloc: Global,
     book: &mut Book<State>,
     diagnostic: &Diagnostic,
-    parsed: &ParsedCommand,
-) -> Result<Vec<u8>, AllocError>
-    ensures text { IfOk result (λ text. (before : ℕ) →
-        AnswersParsed (record { history = book.old; lines = before; diagnostic = diagnostic.now }) (Ok parsed.now) text.items book.new) }
-    ensures kept { OnErr result (book.new ≡ book.old) }
-    ensures failed { IfOk result (λ text. is_failure text.items ≡ true → book.new ≡ book.old) }
-    ensures nothing { OnErr result (parsed.now ≢ SpecParsedCommand.Nothing) }
+    request: &ParsedCommand,
+) -> Result<Vec<u8>, Unanswered>
+    ensures { (before : ℕ) → ExecutesRequest (record { history = book.old; lines = before; diagnostic = diagnostic.now }) request.now result book.new }
 {
-    match parsed {
+    match request {
         ParsedCommand::Nothing => Ok(Vec::new(alloc)),
         ParsedCommand::Call(call) => reply(alloc, book, call),
-        ParsedCommand::Question(question) => answer_question(alloc, book, question),
-        ParsedCommand::Why => render_why(alloc, diagnostic.report()),
+        ParsedCommand::Question(question) => {
+            answer_at(alloc, book.history(), book.state(), question)
+        }
+        ParsedCommand::Why => Ok(render_why(alloc, diagnostic)?),
     }
 }
 
-// Executes a call and renders its reply. The text for an accepted call is made before the call is executed, so that no
-// call is accepted without a report.
-#[tactic(auto, using(crate::proofs::NotDone::want_keeps, crate::proofs::NotDone::next_number, crate::proofs::NotDone::never_busy, crate::proofs::NotDone::never_full))]
-fn reply(alloc: Global, book: &mut Book<State>, call: &Call) -> Result<Vec<u8>, AllocError>
-    ensures text { IfOk result (λ text. Replies book.old call.now text.items book.new) }
-    ensures kept { OnErr result (book.new ≡ book.old) }
+// Executes a call and renders its reply, unless it is refused. The text for an accepted call is made before it
+// is executed, so that no call is accepted without a report.
+#[tactic(auto, using(crate::proofs::NotDone::want_keeps, crate::proofs::NotDone::never_busy, crate::proofs::NotDone::never_full))]
+fn reply(alloc: Global, book: &mut Book<State>, call: &Call) -> Result<Vec<u8>, Unanswered>
+    ensures { RepliesTo book.old call.now result book.new }
 {
     let accepted = accepted_text(alloc, book)?;
-    let answer = book.ask(0, call);
-    match &answer {
-        Ok(reply) => match State::done_at(reply) {
-            Some(_) => Ok(accepted),
-            None => answer_text(alloc, &answer),
-        },
-        Err(Fault::Memory) => Err(AllocError),
+    match book.ask(0, call) {
+        Ok(reply) => render_reply(alloc, accepted, reply),
+        Err(Fault::Memory) => Err(Unanswered::Memory),
         Err(Fault::Busy { .. } | Fault::Full) => unreachable!(),
+    }
+}
+
+// Renders a reply, unless it is a refusal; the text for an accepted call is given.
+fn render_reply(alloc: Global, accepted: Vec<u8>, reply: Reply) -> Result<Vec<u8>, Unanswered>
+    ensures { RendersReply accepted.items reply result }
+{
+    match reply {
+        Reply::Done(_) => Ok(accepted),
+        Reply::Refused(refusal) => Err(Unanswered::Refused(refusal)),
+        Reply::Tree(tree) => Ok(answer_text(alloc, &Ok(Reply::Tree(tree)))?),
+        Reply::Conflicts(pairs) => Ok(answer_text(alloc, &Ok(Reply::Conflicts(pairs)))?),
+        Reply::Names(names) => Ok(answer_text(alloc, &Ok(Reply::Names(names)))?),
     }
 }
 
 // Renders the reply that the next accepted call gets.
 fn accepted_text(alloc: Global, book: &Book<State>) -> Result<Vec<u8>, AllocError>
-    ensures { IfOk result (λ text. text.items ≡ answer_text (Ok (Reply.Done (length book.now.calls + 1)))) }
+    ensures { IfOk result (λ text. text.items ≡ reply_text (reply.Done (length book.now.calls + 1))) }
 {
     let at = book.history().len() as u64 + 1;
     answer_text(alloc, &Ok(Reply::Done(at)))
-}
-
-/// Renders the answer to a command with a fault, given the number of lines before it.
-pub(crate) fn fault_text(
-    alloc: Global,
-    before: u64,
-    line: u64,
-    kind: FaultKind,
-) -> Result<Vec<u8>, AllocError>
-    ensures { IfOk result (λ text. text.items ≡ fault_text (before + line) kind) }
-{
-    let mut number = Buffer::new();
-    let line = number.format(u128::from(before) + u128::from(line));
-    let (line, kind) = (line.as_bytes(), kind.words().as_bytes());
-    joined(alloc, &[b"fault ", line, b" ", kind, b"\n"])
 }
 
 /// Writes an answer and flushes it. An empty answer is not flushed. If the writer fails, a prefix of the answer was
@@ -164,26 +205,14 @@ pub fn write_answer<W: Write>(writer: &mut W, text: &[u8]) -> io::Result<()>
     Ok(())
 }
 
-/// Writes the answer to a command: its text, or that memory ran out.
-pub(crate) fn write_answer_or_memory<W: Write>(
-    writer: &mut W,
-    response: &Result<Vec<u8>, AllocError>,
-) -> Result<(), TalkFault>
+/// Writes the response to a command.
+pub(crate) fn write_response<W: Write>(writer: &mut W, response: &Response) -> Result<(), TalkFault>
     ensures { MatchResult result
-        (λ _. Appends (W.contents writer.old) (W.contents writer.new) (answer_or_memory response.now))
-        (λ why. IsWriting why × AppendsSome (W.contents writer.old) (W.contents writer.new) (answer_or_memory response.now)) }
+        (λ _. Appends (W.contents writer.old) (W.contents writer.new) (written response.now))
+        (λ why. IsWriting why × AppendsSome (W.contents writer.old) (W.contents writer.new) (written response.now)) }
 {
-    match write_answer(writer, answer_or_memory(response)) {
+    match write_answer(writer, response.bytes()) {
         Ok(()) => Ok(()),
         Err(error) => Err(TalkFault::Write(error)),
     }
-}
-
-fn answer_or_memory(response: &Result<Vec<u8>, AllocError>) -> &[u8]
-    ensures { result.now ≡ answer_or_memory response.now }
-{
-    let Ok(text) = response else {
-        return b"memory\n";
-    };
-    text
 }

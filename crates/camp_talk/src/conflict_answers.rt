@@ -5,10 +5,10 @@ ghost use Rattle.camp_script.specs.Texts.{pair_text};
 ghost use Rattle.camp_talk.specs.Inside.Responses.{RendersFound};
 ghost use Rattle.camp_talk.specs.QuestionAnswers.{conflict_hunk_text, marked_lines, marks_answer, open_answer, pairs_answer, side_answer, side_text};
 
-use crate::answer_parts::{append_parts, counted_text, unanswered};
+use crate::answer_parts::{append_parts, counted_text};
 use crate::file_answers::no_file;
 use camp_base::Name;
-use camp_questions::{Marked, MarkedFile, MarkedHunk, Said, Unanswered, Version};
+use camp_questions::{Marked, MarkedFile, MarkedHunk, SideChanges, Unanswered, Version};
 use camp_repo::Conflicts;
 use camp_script::{append_lines, append_pairs, changes_text};
 use itoa::Buffer;
@@ -18,12 +18,12 @@ use std::alloc::{AllocError, Global};
 pub(crate) fn render_open(
     alloc: Global,
     found: Result<Conflicts, Unanswered>,
-) -> Result<Vec<u8>, AllocError>
-    ensures { IfOk result (λ text. RendersFound open_answer found text.items) }
+) -> Result<Vec<u8>, Unanswered>
+    ensures { RendersFound open_answer found result }
 {
     match found {
-        Ok(pairs) => render_pairs(alloc, "open", &pairs),
-        Err(why) => unanswered(alloc, why),
+        Ok(pairs) => Ok(render_pairs(alloc, "open", &pairs)?),
+        Err(why) => Err(why),
     }
 }
 
@@ -49,13 +49,13 @@ fn pairs_text(alloc: Global, pairs: &[(Name, Name)]) -> Result<Vec<u8>, AllocErr
 /// Renders the changes of the side of a patch.
 pub(crate) fn render_side(
     alloc: Global,
-    found: Result<Said, Unanswered>,
-) -> Result<Vec<u8>, AllocError>
-    ensures { IfOk result (λ text. RendersFound side_answer found text.items) }
+    found: Result<SideChanges, Unanswered>,
+) -> Result<Vec<u8>, Unanswered>
+    ensures { RendersFound side_answer found result }
 {
     match found {
-        Ok(side) => counted_text(alloc, "side", changes_text(alloc, side.changes())),
-        Err(why) => unanswered(alloc, why),
+        Ok(side) => Ok(counted_text(alloc, "side", changes_text(alloc, side.changes()))?),
+        Err(why) => Err(why),
     }
 }
 
@@ -63,13 +63,13 @@ pub(crate) fn render_side(
 pub(crate) fn render_marks(
     alloc: Global,
     found: Result<Marked, Unanswered>,
-) -> Result<Vec<u8>, AllocError>
-    ensures { IfOk result (λ text. RendersFound marks_answer found text.items) }
+) -> Result<Vec<u8>, Unanswered>
+    ensures { RendersFound marks_answer found result }
 {
     match found {
-        Ok(Marked::File(file)) => counted_text(alloc, "marks", marked_lines(alloc, &file)),
-        Ok(Marked::NoFile) => no_file(alloc),
-        Err(why) => unanswered(alloc, why),
+        Ok(Marked::File(file)) => Ok(counted_text(alloc, "marks", marked_lines(alloc, &file))?),
+        Ok(Marked::NoFile) => Ok(no_file(alloc)?),
+        Err(why) => Err(why),
     }
 }
 

@@ -62,7 +62,7 @@ impl<R: BufRead, W: Write> Conversation<R, W> {
             alloc,
             book,
             lines: 0,
-            diagnostic: Diagnostic::new(alloc),
+            diagnostic: Diagnostic::new(),
             reader,
             writer,
         }

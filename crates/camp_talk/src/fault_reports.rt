@@ -1,125 +1,48 @@
 //! The report on a command with a fault.
-ghost use Rattle.std.specs.Prelude.{◌≡◌, ◌++◌, IfOk, codes, take};
-ghost use Rattle.camp_script.specs.Lines.{lines_of};
-ghost use Rattle.camp_talk.specs.Reports.{body_rule, cut_off, cut_text, fault_diagnostic, fault_lines, hint_text, is_consequence, is_no_command, line_at, may_record, misnamed_text, most_shown, own_fault_diagnostic, recovery_text, rule, shown_line, word_report};
-
-use crate::Diagnostic;
-use crate::answer_parts::{both, joined};
-use crate::parsing::first_line;
+use crate::plain_texts::PlainText;
 use crate::questions::Reason;
-use crate::recovery::{Recovery, begins_command, is_record, recovery_of_line};
+use crate::recovery::{Recovery, cut_off};
 use crate::refusal_texts::cure;
-use crate::visible::visible;
-use bstr::ByteSlice;
-use camp_script::{FaultKind, LineFault, without_end};
-use camp_why::{Hint, find_hint, misnamed};
-use std::alloc::{AllocError, Global};
+use camp_script::{FaultKind, LineFault};
+use camp_why::{Hint, misnamed};
+use std::alloc::AllocError;
 
-/// The most bytes that are shown of a line.
+/// The most bytes of a word that are shown.
 const SHOWN: usize = 200;
 
-/// Makes the diagnostic of a command with a fault. If that is the consequence of a fault before it, the
-/// diagnostic of that one stays.
-pub(crate) fn fault_diagnostic(
-    alloc: Global,
-    before: &Diagnostic,
-    fault: &LineFault,
-    command: &[u8],
-    answer: &[u8],
-) -> Result<Diagnostic, AllocError>
-    ensures { IfOk result (λ diagnostic. diagnostic ≡ fault_diagnostic before.now fault.now (lines_of command.now) answer.now) }
-{
-    let line = first_line(command);
-    if is_consequence(before.recovery(), fault.kind, line) {
-        return before.advanced(alloc, line);
-    }
-    own_fault_diagnostic(alloc, fault, command, answer)
-}
-
-// Makes the diagnostic of a command with a fault of its own, and the kind of lines that may follow.
-fn own_fault_diagnostic(
-    alloc: Global,
-    fault: &LineFault,
-    command: &[u8],
-    answer: &[u8],
-) -> Result<Diagnostic, AllocError>
-    ensures { IfOk result (λ diagnostic. diagnostic ≡ own_fault_diagnostic fault.now (lines_of command.now) answer.now) }
-{
-    let recovery = cut_off(fault.line, fault.kind, first_line(command));
-    let line = line_at(command, fault.line);
-    let report = fault_lines(alloc, fault.kind, line, answer, recovery);
-    Diagnostic::of(report, recovery)
-}
-
-// True if a fault is the consequence of one before it: its line begins no command, and may be a line of the body or
-// group that was cut off.
-fn is_consequence(recovery: Recovery, kind: FaultKind, line: &[u8]) -> bool
-    ensures { result ≡ is_consequence recovery kind line.now }
-{
-    recovery.may_be(line) && is_no_command(kind, line)
-}
-
-// True if a line with a fault of this kind begins no command.
-fn is_no_command(kind: FaultKind, line: &[u8]) -> bool
-    ensures { result ≡ is_no_command kind line.now }
-{
-    kind == FaultKind::UnknownCommand && !begins_command(line)
-}
-
-// Returns the kind of lines that may follow a command with this fault: if the fault is in its first line, those that
-// the command was cut off from.
-fn cut_off(number: u64, kind: FaultKind, line: &[u8]) -> Recovery
-    ensures { result ≡ cut_off number kind line.now }
-{
-    if number == 1 && may_record(kind, line) {
-        return recovery_of_line(line);
-    }
-    Recovery::Nothing
-}
-
-// True if a line with a fault of this kind is a record, or may be one whose first word is misspelt.
-fn may_record(kind: FaultKind, line: &[u8]) -> bool
-    ensures { result ≡ may_record kind line.now }
-{
-    is_record(line) || is_no_command(kind, line)
-}
-
-// Returns the line with this number, counted from 1, or an empty one.
-fn line_at(command: &[u8], number: u64) -> &[u8]
-    ensures { result.now ≡ line_at number (lines_of command.now) }
-{
-    let before = number.saturating_sub(1) as usize;
-    match command.lines_with_terminator().nth(before) {
-        Some(line) => without_end(line),
-        None => &[],
-    }
-}
-
-// Renders the report on a command with a fault: its answer, the line, the hint on it, the rule, what to write instead,
-// and which lines after it are taken for its own.
-fn fault_lines(
-    alloc: Global,
-    kind: FaultKind,
+/// Appends which word has the fault, the hint on its line, the rule, what to write, and which later lines count as part
+/// of the faulty command.
+pub(crate) fn append_fault(
+    text: &mut PlainText,
+    fault: LineFault,
+    hint: Hint,
     line: &[u8],
-    answer: &[u8],
-    recovery: Recovery,
-) -> Result<Vec<u8>, AllocError>
-    ensures { IfOk result (λ text. text.items ≡ fault_lines kind line.now answer.now recovery) }
-{
-    let hint = hint_text(find_hint(kind, line)).as_bytes();
-    let recovery = recovery_text(recovery).as_bytes();
-    let rules = joined(alloc, &[hint, rule(kind).as_bytes(), recovery]);
-    let front = both(
-        with_line(alloc, answer, line),
-        word_report(alloc, kind, line),
-    );
-    both(front, rules)
+) -> Result<(), AllocError> {
+    append_word(text, fault.kind, line)?;
+    let hint = hint_text(hint).as_bytes();
+    let recovery = recovery_text(cut_off(fault.line, fault.kind, line)).as_bytes();
+    text.push(&[hint, rule(fault.kind).as_bytes(), recovery])
 }
 
-// Renders that the lines after it are taken for its own, if lines may come.
-fn recovery_text(recovery: Recovery) -> &'static str
-    ensures { result.now ≡ recovery_text recovery }
-{
+// Appends which word has the fault, if it is one of many.
+fn append_word(text: &mut PlainText, kind: FaultKind, line: &[u8]) -> Result<(), AllocError> {
+    match kind {
+        FaultKind::BadName => append_misnamed(text, misnamed(line)),
+        _ => Ok(()),
+    }
+}
+
+fn append_misnamed(text: &mut PlainText, word: &[u8]) -> Result<(), AllocError> {
+    if word.len() > SHOWN {
+        return text.push(&[b"A word of more than 200 bytes is no name.\n"]);
+    }
+    text.push(&[b"This is no name: "])?;
+    text.quote(word)?;
+    text.push(&[b"\n"])
+}
+
+// Returns the text for lines that count as part of the faulty command; empty if there are none.
+fn recovery_text(recovery: Recovery) -> &'static str {
     match recovery {
         Recovery::Nothing | Recovery::Signed => "",
         Recovery::Body => {
@@ -131,70 +54,22 @@ fn recovery_text(recovery: Recovery) -> &'static str
     }
 }
 
-/// Renders an answer, and then the line of its command after `>`: as much as is shown of it, in printable characters.
-pub(crate) fn with_line(alloc: Global, answer: &[u8], line: &[u8]) -> Result<Vec<u8>, AllocError>
-    ensures { IfOk result (λ text. text.items ≡ answer.now ++ shown_line line.now) }
-{
-    let start = visible(alloc, shown(line))?;
-    let end = shown_end(line).as_bytes();
-    joined(alloc, &[answer, b">", start.as_slice(), end])
-}
-
-// Returns as many bytes of a line as are shown.
-fn shown(line: &[u8]) -> &[u8]
-    ensures { result.now ≡ take most_shown line.now }
-{
-    &line[..SHOWN.min(line.len())]
-}
-
-// Renders what follows the shown part of a line: a line feed and, if the line has more bytes, a note that it has.
-fn shown_end(line: &[u8]) -> &str
-    ensures { result.now ≡ codes "\n" ++ cut_text line.now }
-{
-    if line.len() > SHOWN {
-        return "\nOnly its first 200 bytes are shown.\n";
-    }
-    "\n"
-}
-
-// Renders which of several words has the fault.
-fn word_report(alloc: Global, kind: FaultKind, line: &[u8]) -> Result<Vec<u8>, AllocError>
-    ensures { IfOk result (λ text. text.items ≡ word_report kind line.now) }
-{
-    match kind {
-        FaultKind::BadName => misnamed_text(alloc, misnamed(line)),
-        _ => Ok(Vec::new(alloc)),
-    }
-}
-
-fn misnamed_text(alloc: Global, word: &[u8]) -> Result<Vec<u8>, AllocError>
-    ensures { IfOk result (λ text. text.items ≡ misnamed_text word.now) }
-{
-    if word.len() > SHOWN {
-        return Vec::from_slice(alloc, b"A word of more than 200 bytes is no name.\n");
-    }
-    let word = visible(alloc, word)?;
-    joined(alloc, &[b"This is no name: ", word.as_slice(), b"\n"])
-}
-
-// Renders that a line of a body is empty.
+// The text for an empty line of a body.
 const EMPTY: &str = "It is empty: for an empty line of the file write - or + alone.\n\
     To end the body, write a line with just end.\n";
 
-// Renders that a line of a body begins with a blank.
+// The text for a line of a body that begins with a blank.
 const BLANK: &str = "It begins with a blank: the sign comes first, and end is alone on its line.\n\
     To end the body, write a line with just end.\n";
 
-// Renders that an edit reaches too far.
+// The text for an edit that reaches too far.
 const TOO_FAR: &str = "The edit reaches too far: LINE plus the lines of both sides is too great.\n";
 
-// Renders that a line of a body has no sign.
+// The text for a line of a body without a sign.
 const NO_SIGN: &str = "It has no sign, - or +. To end the body, write a line with just end.\n";
 
-// Renders the hint on a line.
-fn hint_text(hint: Hint) -> &'static str
-    ensures { result.now ≡ hint_text hint }
-{
+// Returns the hint on the line.
+fn hint_text(hint: Hint) -> &'static str {
     match hint {
         Hint::Nothing => "",
         Hint::OfBody => {
@@ -232,10 +107,8 @@ fn hint_text(hint: Hint) -> &'static str
     }
 }
 
-// Renders the broken rule, and what to write instead.
-fn rule(kind: FaultKind) -> &'static str
-    ensures { result.now ≡ rule kind }
-{
+// Returns the broken rule, and what to write.
+fn rule(kind: FaultKind) -> &'static str {
     match kind {
         FaultKind::UnknownCommand => {
             "A line begins with a command; a record has BRANCH, NAME, and then add, remove, edit or group:\n\
@@ -257,10 +130,8 @@ fn rule(kind: FaultKind) -> &'static str
     }
 }
 
-// Renders the broken rule of a body or a group, or of a number of lines, and what to write instead.
-fn body_rule(kind: FaultKind) -> &'static str
-    ensures { result.now ≡ body_rule kind }
-{
+// Returns the broken rule of a body or a group, or of a number of lines, and what to write.
+fn body_rule(kind: FaultKind) -> &'static str {
     match kind {
         FaultKind::BadEdit => {
             "A body has old lines, each after -, then new ones, each after +, at least one in\n\

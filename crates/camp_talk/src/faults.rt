@@ -1,6 +1,6 @@
 //! Why a conversation ends before its input does.
-ghost use Rattle.std.specs.Prelude.{◌≡◌, Some};
-ghost use Rattle.camp_talk.specs.Faults.{fault_status, talk_fault_words, load_status, load_words};
+ghost use Rattle.std.specs.Prelude.{◌≡◌};
+ghost use Rattle.camp_talk.specs.Faults.{fault_status, load_status};
 
 use bstr::BStr;
 use camp_script::without_end;
@@ -33,8 +33,6 @@ impl TalkFault {
 }
 
 impl fmt::Display for TalkFault {
-    ghost output = { λ fault. Some (talk_fault_words fault) };
-
     fn fmt<W: fmt::Write>(&self, f: &mut fmt::Formatter<W>) -> fmt::Result {
         match self {
             TalkFault::Memory => f.write_str("out of memory"),
@@ -72,8 +70,6 @@ impl LoadFault {
 }
 
 impl fmt::Display for LoadFault {
-    ghost output = { λ fault. Some (load_words fault) };
-
     fn fmt<W: fmt::Write>(&self, f: &mut fmt::Formatter<W>) -> fmt::Result {
         match self {
             LoadFault::Answer { line, text } => {

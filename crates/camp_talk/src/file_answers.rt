@@ -6,7 +6,7 @@ ghost use Rattle.camp_script.specs.Texts.{signed_line};
 ghost use Rattle.camp_talk.specs.Inside.Responses.{RendersFound};
 ghost use Rattle.camp_talk.specs.QuestionAnswers.{annotated_answer, annotated_line, file_answer, no_file_answer};
 
-use crate::answer_parts::{append_parts, counted_text, unanswered};
+use crate::answer_parts::{append_parts, counted_text};
 use camp_base::{Line, Name};
 use camp_questions::{Annotated, Unanswered};
 use camp_script::append_lines;
@@ -17,19 +17,20 @@ use std::alloc::{AllocError, Global};
 pub(crate) fn render_annotated(
     alloc: Global,
     found: Result<Annotated, Unanswered>,
-) -> Result<Vec<u8>, AllocError>
-    ensures { IfOk result (λ text. RendersFound annotated_answer found text.items) }
+) -> Result<Vec<u8>, Unanswered>
+    ensures { RendersFound annotated_answer found result }
 {
     match found {
         Ok(Annotated::File { lines, names }) => {
-            counted_text(alloc, "annotate", annotated_lines(alloc, &lines, &names))
+            let text = annotated_lines(alloc, &lines, &names);
+            Ok(counted_text(alloc, "annotate", text)?)
         }
-        Ok(Annotated::NoFile) => no_file(alloc),
-        Err(why) => unanswered(alloc, why),
+        Ok(Annotated::NoFile) => Ok(no_file(alloc)?),
+        Err(why) => Err(why),
     }
 }
 
-/// Renders that a branch has no such file.
+/// Renders the answer for a file that the branch does not have.
 pub(crate) fn no_file(alloc: Global) -> Result<Vec<u8>, AllocError>
     ensures { IfOk result (λ text. text.items ≡ no_file_answer) }
 {
@@ -40,13 +41,13 @@ pub(crate) fn no_file(alloc: Global) -> Result<Vec<u8>, AllocError>
 pub(crate) fn render_file(
     alloc: Global,
     found: Result<Option<SharedList<Line>>, Unanswered>,
-) -> Result<Vec<u8>, AllocError>
-    ensures { IfOk result (λ text. RendersFound file_answer found text.items) }
+) -> Result<Vec<u8>, Unanswered>
+    ensures { RendersFound file_answer found result }
 {
     match found {
-        Ok(Some(lines)) => counted_text(alloc, "file", file_lines(alloc, &lines)),
-        Ok(None) => no_file(alloc),
-        Err(why) => unanswered(alloc, why),
+        Ok(Some(lines)) => Ok(counted_text(alloc, "file", file_lines(alloc, &lines))?),
+        Ok(None) => Ok(no_file(alloc)?),
+        Err(why) => Err(why),
     }
 }
 

@@ -1,6 +1,6 @@
 //! Requests in frames: each comes after a line with its number of bytes, and so does its answer.
-ghost use Rattle.std.specs.Prelude.{◌≡◌, ◌-◌, ◌^◌, Some};
-ghost use Rattle.camp_talk.specs.Frames.{Serves, frame_status, frame_words};
+ghost use Rattle.std.specs.Prelude.{◌≡◌, ◌-◌, ◌^◌};
+ghost use Rattle.camp_talk.specs.Frames.{Serves, frame_status};
 ghost use Rattle.camp_talk.specs.declared.frames.FrameFault.TheVariants as frame;
 
 use crate::TalkFault;
@@ -38,8 +38,6 @@ impl FrameFault {
 }
 
 impl fmt::Display for FrameFault {
-    ghost output = { λ fault. Some (frame_words fault) };
-
     fn fmt<W: fmt::Write>(&self, f: &mut fmt::Formatter<W>) -> fmt::Result {
         match self {
             FrameFault::NoNumber => {

@@ -3,7 +3,7 @@ ghost use Rattle.std.specs.Prelude.{IfOk};
 ghost use Rattle.camp_talk.specs.Inside.Responses.{RendersFound};
 ghost use Rattle.camp_talk.specs.QuestionAnswers.{graph_answer};
 
-use crate::answer_parts::{counted, unanswered};
+use crate::answer_parts::counted;
 use camp_questions::{Picture, Unanswered, graph_text};
 use std::alloc::{AllocError, Global};
 
@@ -11,14 +11,14 @@ use std::alloc::{AllocError, Global};
 pub(crate) fn render_graph(
     alloc: Global,
     found: Result<Picture, Unanswered>,
-) -> Result<Vec<u8>, AllocError>
-    ensures { IfOk result (λ text. RendersFound graph_answer found text.items) }
+) -> Result<Vec<u8>, Unanswered>
+    ensures { RendersFound graph_answer found result }
 {
     match found {
         Ok(picture) => {
             let text = graph_text(alloc, &picture)?;
-            counted(alloc, "graph", text.as_bytes())
+            Ok(counted(alloc, "graph", text.as_bytes())?)
         }
-        Err(why) => unanswered(alloc, why),
+        Err(why) => Err(why),
     }
 }

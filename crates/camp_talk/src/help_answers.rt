@@ -1,44 +1,43 @@
 //! The text of `help`.
 ghost use Rattle.std.specs.Prelude.{◌≡◌, IfOk};
-ghost use Rattle.std.specs.List.{flat_map};
-ghost use Rattle.camp_talk.specs.Help.{command_text, commands, details, example, help_text, summary};
-ghost use Rattle.camp_talk.specs.QuestionAnswers.{help_answer};
+ghost use Rattle.camp_talk.specs.QuestionAnswers.{IsHelp};
+ghost use Rattle.camp_talk.specs.Topics.{topic_word, commands};
 
 use crate::Topic;
-use crate::answer_parts::{counted_text, joined};
-use crate::refusal_texts::{all_sayings, refusal_text};
+use crate::answer_parts::{counted, joined};
+use crate::refusal_texts::{all_sayings, reason_text};
+use camp_repo::Limits;
 use std::alloc::{AllocError, Global};
 
-/// Renders the forms of commands, or the meanings of refusals.
-pub(crate) fn render_help(alloc: Global, topic: Topic) -> Result<Vec<u8>, AllocError>
-    ensures { IfOk result (λ text. text.items ≡ help_answer topic) }
+/// Renders the forms of commands, or the meanings of refusals in a repository with these limits.
+pub(crate) fn render_help(
+    alloc: Global,
+    limits: Limits,
+    topic: Topic,
+) -> Result<Vec<u8>, AllocError>
+    ensures { IfOk result (λ text. IsHelp text.items) }
 {
-    counted_text(alloc, "help", help_text(alloc, topic))
+    let lines = help_text(alloc, limits, topic)?;
+    counted(alloc, "help", &lines)
 }
 
-fn help_text(alloc: Global, topic: Topic) -> Result<Vec<u8>, AllocError>
-    ensures { IfOk result (λ text. text.items ≡ help_text topic) }
-{
+fn help_text(alloc: Global, limits: Limits, topic: Topic) -> Result<Vec<u8>, AllocError> {
     match topic {
         Topic::Commands => all_summaries(alloc),
         Topic::Refusals => all_sayings(alloc),
-        Topic::Refusal(reason) => refusal_text(alloc, reason),
+        Topic::Refusal(reason) => reason_text(alloc, limits, reason),
         _ => command_text(alloc, topic),
     }
 }
 
-fn command_text(alloc: Global, topic: Topic) -> Result<Vec<u8>, AllocError>
-    ensures { IfOk result (λ text. text.items ≡ command_text topic) }
-{
+fn command_text(alloc: Global, topic: Topic) -> Result<Vec<u8>, AllocError> {
     let summary = summary(topic).as_bytes();
     let details = details(topic).as_bytes();
     let example = example(topic).as_bytes();
     joined(alloc, &[summary, details, b"Example:\n", example])
 }
 
-fn all_summaries(alloc: Global) -> Result<Vec<u8>, AllocError>
-    ensures { IfOk result (λ text. text.items ≡ flat_map summary commands) }
-{
+fn all_summaries(alloc: Global) -> Result<Vec<u8>, AllocError> {
     let mut text = Vec::new(alloc);
     let commands = commands();
     for command in &commands {
@@ -79,6 +78,39 @@ pub(crate) fn commands() -> [Topic; 24]
     ]
 }
 
+/// Returns the first word of a command.
+pub(crate) fn topic_word(topic: Topic) -> &'static str
+    ensures { result.now ≡ topic_word topic }
+{
+    match topic {
+        Topic::Commands | Topic::Refusals | Topic::Refusal(_) => "",
+        Topic::Branch => "branch",
+        Topic::Record => "record",
+        Topic::Pull => "pull",
+        Topic::Obliterate => "obliterate",
+        Topic::Tree => "tree",
+        Topic::Conflicts => "conflicts",
+        Topic::Names => "names",
+        Topic::Branches => "branches",
+        Topic::File => "file",
+        Topic::Needs => "needs",
+        Topic::Held => "held",
+        Topic::Missing => "missing",
+        Topic::Along => "along",
+        Topic::Show => "show",
+        Topic::Annotate => "annotate",
+        Topic::Open => "open",
+        Topic::Side => "side",
+        Topic::Marks => "marks",
+        Topic::Graph => "graph",
+        Topic::WhatIf => "whatif",
+        Topic::Why => "why",
+        Topic::History => "history",
+        Topic::Keep => "keep",
+        Topic::Help => "help",
+    }
+}
+
 // How a patch is recorded.
 const RECORD_FORMS: &str = "record BRANCH NAME add PATH: record a patch that adds a file\n\
     record BRANCH NAME remove PATH: record a patch that removes a file without lines\n\
@@ -92,9 +124,7 @@ const HELP_FORMS: &str = "help: all commands\n\
     help refused NUMBER: one of them, and what can be done\n";
 
 // Returns the form of a command, and what it does: a line for each of its forms.
-fn summary(topic: Topic) -> &'static str
-    ensures { result.now ≡ summary topic }
-{
+fn summary(topic: Topic) -> &'static str {
     match topic {
         Topic::Commands | Topic::Refusals | Topic::Refusal(_) => "",
         Topic::Branch => "branch NEW FROM: make a branch that is a copy of another\n",
@@ -148,9 +178,7 @@ const WHY: &str =
     and what can be done; for a fault: what is wrong in the line, and the rule.\n";
 
 // Returns more about a command, if there is more to say.
-fn details(topic: Topic) -> &'static str
-    ensures { result.now ≡ details topic }
-{
+fn details(topic: Topic) -> &'static str {
     match topic {
         Topic::Record => {
             "A body has the old lines, each after -, and then the new ones, each after +.\n\
@@ -187,10 +215,8 @@ fn details(topic: Topic) -> &'static str
     }
 }
 
-/// Returns an example of a command.
-pub(crate) fn example(topic: Topic) -> &'static str
-    ensures { result.now ≡ example topic }
-{
+// Returns an example of a command.
+fn example(topic: Topic) -> &'static str {
     match topic {
         Topic::Commands | Topic::Refusals | Topic::Refusal(_) => "",
         Topic::Branch => "branch anna main\n",

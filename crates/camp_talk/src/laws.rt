@@ -22,22 +22,25 @@ pub fn requests_are_served_in_turn()
 {}
 
 /// `load` restores a history from the output of `keep` or `kept_text`: its calls are accepted again and lead to its
-/// state, however many they are. A load that fails has accepted the first of them.
+/// state, however many they are. A load that fails has accepted a prefix of them.
 pub fn keep_restores_history()
     ensures law { KeepRestoresHistory }
 {}
 
-/// If a call is refused because of a limit or its changes, the answer to `why` gives a cause.
+/// If a call is refused because of a limit or its changes, the diagnostic that `why` reports has a cause, and
+/// what that says is true.
 pub fn causes_are_reported()
     ensures law { CausesAreReported }
 {}
 
-/// If a call is refused, the answer to `why` describes that refusal, and what it says is true.
+/// If a call is refused, the diagnostic that `why` reports has the call, the state and the refusal, and what
+/// the refusal says is true.
 pub fn refusals_are_described()
     ensures law { RefusalsAreDescribed }
 {}
 
-/// If a command has a fault of its own, the answer to `why` describes the line that has it.
+/// If a command has a fault of its own, the diagnostic that `why` reports has the fault, the line that has it,
+/// and a hint on that line, which is true.
 pub fn faults_are_described()
     ensures law { FaultsAreDescribed }
 {}

@@ -1,9 +1,10 @@
 //! Loading commands, each of which has to succeed.
 ghost use Rattle.std.specs.Prelude.{◌≡◌, true, IfOk};
 ghost use Rattle.camp_talk.specs.Inside.ExecutingNext.{LoadsOne};
-ghost use Rattle.camp_talk.specs.Loads.{Loads, reports_failure};
+ghost use Rattle.camp_talk.specs.Loads.{Loads};
 ghost use Rattle.camp_talk.specs.Talks.{HasGrown};
 
+use crate::responses::Response;
 use crate::talks::{ExecutedCommand, execute_next};
 use crate::{Diagnostic, LoadFault};
 use camp_repo::{Book, State};
@@ -20,12 +21,13 @@ pub fn load<R: BufRead>(
     ensures loads { Loads (R.remaining reader.old) (R.remaining reader.new) book.old result book.new }
 {
     let mut lines = 0;
-    let mut diagnostic = Diagnostic::new(alloc);
+    let mut diagnostic = Diagnostic::new();
     while load_one(alloc, book, &mut lines, &mut diagnostic, reader)? {}
     Ok(())
 }
 
 // Loads a command. True if there may be more, false if the input has ended. `lines` counts the lines that were read.
+#[tactic(auto, using(crate::proofs::Loading::one_wants))]
 fn load_one<R: BufRead>(
     alloc: Global,
     book: &mut Book<State>,
@@ -47,21 +49,12 @@ fn load_one<R: BufRead>(
         Ok(executed) => executed,
         Err(why) => return Err(LoadFault::Talk(why)),
     };
-    let Ok(text) = response else {
-        return Err(LoadFault::Memory { line });
-    };
-    if reports_failure(&text) {
-        return Err(LoadFault::Answer { line, text });
+    match response {
+        Response::Done(_) => {
+            *lines = after;
+            Ok(is_whole)
+        }
+        Response::Failed { answer, .. } => Err(LoadFault::Answer { line, text: answer }),
+        Response::OutOfMemory => Err(LoadFault::Memory { line }),
     }
-    *lines = after;
-    Ok(is_whole)
-}
-
-// True if an answer says that its command was not done.
-fn reports_failure(answer: &[u8]) -> bool
-    ensures { result ≡ reports_failure answer.now }
-{
-    answer.starts_with(b"fault ")
-        || answer.starts_with(b"refused ")
-        || answer.starts_with(b"memory\n")
 }

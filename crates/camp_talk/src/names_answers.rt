@@ -4,7 +4,7 @@ ghost use Rattle.camp_questions.specs.Files.{branch_names};
 ghost use Rattle.camp_talk.specs.Inside.Responses.{RendersFound};
 ghost use Rattle.camp_talk.specs.QuestionAnswers.{names_answer};
 
-use crate::answer_parts::{counted, unanswered};
+use crate::answer_parts::counted;
 use camp_questions::{Unanswered, branches};
 use camp_repo::{Names, State};
 use camp_script::append_names;
@@ -15,12 +15,12 @@ pub(crate) fn render_found(
     alloc: Global,
     word: &str,
     found: Result<Names, Unanswered>,
-) -> Result<Vec<u8>, AllocError>
-    ensures { IfOk result (λ text. RendersFound (names_answer word.now) found text.items) }
+) -> Result<Vec<u8>, Unanswered>
+    ensures { RendersFound (names_answer word.now) found result }
 {
     match found {
-        Ok(names) => render_names(alloc, word, &names),
-        Err(why) => unanswered(alloc, why),
+        Ok(names) => Ok(render_names(alloc, word, &names)?),
+        Err(why) => Err(why),
     }
 }
 

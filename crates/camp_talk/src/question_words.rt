@@ -115,7 +115,7 @@ fn plain_question(word: &[u8], words: &[&[u8]]) -> Result<Option<Question>, Scri
 fn branch_and_names(alloc: Global, words: Words<'_>) -> Result<(Name, Names), ScriptFault>
     ensures { Gives result (branch_and_names words.entry) }
 {
-    let mut counted = words.again();
+    let mut counted = words.duplicate();
     if counted.next().is_none() || counted.next().is_none() {
         return Err(at_line(1, FaultKind::WrongNumberOfWords));
     }
@@ -145,7 +145,7 @@ fn branches_and_names(
     let Some(to) = words.next() else {
         return Err(at_line(1, FaultKind::WrongNumberOfWords));
     };
-    let Some(_) = words.again().next() else {
+    let Some(_) = words.duplicate().next() else {
         return Err(at_line(1, FaultKind::WrongNumberOfWords));
     };
     let from = name_at(1, from)?;

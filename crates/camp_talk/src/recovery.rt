@@ -1,10 +1,10 @@
 //! Recovery: the lines of a command that a fault in its first line has cut off.
 ghost use Rattle.std.specs.Prelude.{◌≡◌};
 ghost use Rattle.camp_script.specs.Lines.{words_of};
-ghost use Rattle.camp_talk.specs.Diagnostics.{begins_command, is_edit, is_form, is_group, is_record, is_short, may_be, recovery_after, recovery_after_branch, recovery_in_words, recovery_of_line};
+ghost use Rattle.camp_talk.specs.Diagnostics.{begins_command, cut_off, is_consequence, is_edit, is_form, is_group, is_no_command, is_record, is_short, may_be, may_record, recovery_after, recovery_after_branch, recovery_in_words, recovery_of_line};
 
 use crate::parsing::is_word;
-use camp_script::{Words, after_word, begins_edit, begins_with};
+use camp_script::{FaultKind, Words, after_word, begins_edit, begins_with};
 use camp_why::{begins_signed, call_part};
 
 /// The kind of lines that may still come of a command after a fault in its first line.
@@ -49,16 +49,49 @@ impl Recovery {
     }
 }
 
-/// Returns the kind of lines that follow a line with a fault, if it is a record, or may be a misspelt one.
-pub(crate) fn recovery_of_line(line: &[u8]) -> Recovery
+/// True if a fault is the consequence of one before it: its line begins no command, and may be one of a body
+/// or a group that was cut off.
+pub(crate) fn is_consequence(recovery: Recovery, kind: FaultKind, line: &[u8]) -> bool
+    ensures { result ≡ is_consequence recovery kind line.now }
+{
+    recovery.may_be(line) && is_no_command(kind, line)
+}
+
+/// Returns the lines that may still come of a command, given the number of its faulty line, the kind of the fault, and
+/// that line. Only a fault in the first line cuts lines off.
+pub(crate) fn cut_off(number: u64, kind: FaultKind, line: &[u8]) -> Recovery
+    ensures { result ≡ cut_off number kind line.now }
+{
+    if number == 1 && may_record(kind, line) {
+        return recovery_of_line(line);
+    }
+    Recovery::Nothing
+}
+
+// True if a line with a fault of this kind begins no command.
+fn is_no_command(kind: FaultKind, line: &[u8]) -> bool
+    ensures { result ≡ is_no_command kind line.now }
+{
+    kind == FaultKind::UnknownCommand && !begins_command(line)
+}
+
+// True if a line with a fault of this kind is a record, or may be one whose first word is misspelt.
+fn may_record(kind: FaultKind, line: &[u8]) -> bool
+    ensures { result ≡ may_record kind line.now }
+{
+    is_record(line) || is_no_command(kind, line)
+}
+
+// Returns the kind of lines that follow a line with a fault, if it is a record, or may be a misspelt one.
+fn recovery_of_line(line: &[u8]) -> Recovery
     ensures { result ≡ recovery_of_line line.now }
 {
     recovery_after_branch(after_word(after_word(call_part(line))))
 }
 
-/// True if the first word of a line is `client`, or that of a command that may be unknown only because of the words
-/// after it.
-pub(crate) fn begins_command(line: &[u8]) -> bool
+// True if the first word of a line is `client`, or one whose command may be unknown only because of the words after it:
+// `record`, `help` or `whatif`.
+fn begins_command(line: &[u8]) -> bool
     ensures { result ≡ begins_command line.now }
 {
     is_record(line)
@@ -67,8 +100,8 @@ pub(crate) fn begins_command(line: &[u8]) -> bool
         || begins_with(line, b"client")
 }
 
-/// True if a line is a record, perhaps after `whatif`.
-pub(crate) fn is_record(line: &[u8]) -> bool
+// True if a line is a record, perhaps after `whatif`.
+fn is_record(line: &[u8]) -> bool
     ensures { result ≡ is_record line.now }
 {
     match Words::new(call_part(line)).next() {
@@ -84,7 +117,7 @@ fn recovery_after_branch(line: &[u8]) -> Recovery
     recovery_in_words(after_word(line), recovery_in_words(line, Recovery::Signed))
 }
 
-// Returns the kind of lines that follow by the first word of a line that says it; else the given kind.
+// Returns the kind of lines that follow, by the first word of the line that decides it; if none does, the given kind.
 fn recovery_in_words(line: &[u8], other: Recovery) -> Recovery
     ensures { result ≡ recovery_in_words (words_of line.now) other }
 {

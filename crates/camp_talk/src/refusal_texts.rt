@@ -1,16 +1,15 @@
 //! The texts about refusals.
-ghost use Rattle.std.specs.Prelude.{◌≡◌, IfOk};
-ghost use Rattle.std.specs.List.{flat_map};
-ghost use Rattle.camp_talk.specs.Refusals.{cure, reason_number, reasons, refusal_text, saying};
+ghost use Rattle.std.specs.Prelude.{◌≡◌};
+ghost use Rattle.camp_talk.specs.Topics.{reason_number, reasons};
 
 use crate::answer_parts::joined;
 use crate::questions::Reason;
+use camp_repo::{Limits, Refusal};
+use itoa::Buffer;
 use std::alloc::{AllocError, Global};
 
 /// Renders the meaning of each refusal.
-pub(crate) fn all_sayings(alloc: Global) -> Result<Vec<u8>, AllocError>
-    ensures { IfOk result (λ text. text.items ≡ flat_map saying reasons) }
-{
+pub(crate) fn all_sayings(alloc: Global) -> Result<Vec<u8>, AllocError> {
     let mut text = Vec::new(alloc);
     let reasons = reasons();
     for reason in &reasons {
@@ -19,11 +18,35 @@ pub(crate) fn all_sayings(alloc: Global) -> Result<Vec<u8>, AllocError>
     Ok(text)
 }
 
-/// Renders the meaning of a refusal, and the hint on it.
-pub(crate) fn refusal_text(alloc: Global, reason: Reason) -> Result<Vec<u8>, AllocError>
-    ensures { IfOk result (λ text. text.items ≡ refusal_text reason) }
-{
-    joined(alloc, &[saying(reason).as_bytes(), cure(reason).as_bytes()])
+/// Renders the meaning of a refusal, and the hint on it in a repository with these limits.
+pub(crate) fn reason_text(
+    alloc: Global,
+    limits: Limits,
+    reason: Reason,
+) -> Result<Vec<u8>, AllocError> {
+    match reason {
+        Reason::TooLarge => limits_text(alloc, limits),
+        _ => joined(alloc, &[saying(reason).as_bytes(), cure(reason).as_bytes()]),
+    }
+}
+
+// Renders that a limit would be exceeded, and the limits.
+fn limits_text(alloc: Global, limits: Limits) -> Result<Vec<u8>, AllocError> {
+    let mut digits = Buffer::new();
+    let branches = digits.format(limits.branches()).as_bytes();
+    let mut digits = Buffer::new();
+    let catches = digits.format(limits.catches()).as_bytes();
+    joined(
+        alloc,
+        &[
+            saying(Reason::TooLarge).as_bytes(),
+            b"The limits: 65535 lines in a side of an edit, 1000000 lines in a file, ",
+            branches,
+            b" branches\nand ",
+            catches,
+            b" changes in a branch. Split the edit or the patch, or obliterate patches.\n",
+        ],
+    )
 }
 
 /// Returns the reasons of refusals, in the order of their numbers.
@@ -70,10 +93,25 @@ pub(crate) fn reason_number(reason: Reason) -> &'static str
     }
 }
 
+/// Returns the reason of a refusal.
+pub(crate) fn reason_of(refusal: &Refusal) -> Reason {
+    match refusal {
+        Refusal::NoBranch(_) => Reason::NoBranch,
+        Refusal::BranchExists(_) => Reason::BranchExists,
+        Refusal::PatchExists(_) => Reason::PatchExists,
+        Refusal::NoPatch(_) => Reason::NoPatch,
+        Refusal::NothingToDo => Reason::NothingToDo,
+        Refusal::TooLarge => Reason::TooLarge,
+        Refusal::DoesNotApply => Reason::DoesNotApply,
+        Refusal::Depends { .. } => Reason::Depends,
+        Refusal::Diverged(_) => Reason::Diverged,
+        Refusal::NoMerge { .. } => Reason::NoMerge,
+        Refusal::SameBranch(_) => Reason::SameBranch,
+    }
+}
+
 /// Returns the form of a refusal with its meaning.
-pub(crate) fn saying(reason: Reason) -> &'static str
-    ensures { result.now ≡ saying reason }
-{
+pub(crate) fn saying(reason: Reason) -> &'static str {
     match reason {
         Reason::BadName => "1: a word is not a name; it is reported as the fault bad name\n",
         Reason::BadPath => "2: a word is not a path; it is reported as the fault bad path\n",
@@ -95,9 +133,7 @@ pub(crate) fn saying(reason: Reason) -> &'static str
 }
 
 /// Returns the hint on a reason.
-pub(crate) fn cure(reason: Reason) -> &'static str
-    ensures { result.now ≡ cure reason }
-{
+pub(crate) fn cure(reason: Reason) -> &'static str {
     match reason {
         Reason::BadName => {
             "A name has 1 to 40 characters of a to z, 0 to 9 and -, and does not begin with -.\n"
@@ -113,10 +149,7 @@ pub(crate) fn cure(reason: Reason) -> &'static str
         Reason::NoPatch =>
             "names lists the patches of a branch, and missing those that another has and it lacks.\n",
         Reason::NothingToDo => "Nothing has to be done.\n",
-        Reason::TooLarge => {
-            "The limits: 65535 lines in a side of an edit, 1000000 lines in a file and, unless others were given,\n\
-            256 branches and 4096 changes in a branch. Split the edit or the patch, or obliterate patches.\n"
-        }
+        Reason::TooLarge => "Split the edit or the patch, or obliterate patches.\n",
         Reason::DoesNotApply => {
             "add needs a free path, remove a file without lines, and an edit a file with its old lines at LINE.\n\
             Until more is recorded, file BRANCH PATH shows the file before the first change.\n"

@@ -1,25 +1,26 @@
 //! Requests, each of which is a conversation of its own.
 ghost use Rattle.std.specs.Prelude.{◌≡◌, ◌++◌, true, List, IfErr, IfOk, MatchResult, OnOk, ℕ};
+ghost use Rattle.camp_talk.specs.Diagnostics.{no_diagnostic};
 ghost use Rattle.camp_talk.specs.Inside.RequestSteps.{AppendsStep, IsHaltOf};
-ghost use Rattle.camp_talk.specs.Inside.Responses.{answer_or_memory};
+ghost use Rattle.camp_talk.specs.Inside.Responses.{written};
 ghost use Rattle.camp_talk.specs.Requests.{AnswersRequest, AnswersSome, HasCommands, IsUnanswered, one_unless_empty};
 ghost use Rattle.camp_talk.specs.Talks.{HasGrown};
 
 use crate::lines::hold;
+use crate::responses::Response;
 use crate::talks::execute_next;
 use crate::{Diagnostic, TalkFault};
 use camp_repo::{Book, State};
-use std::alloc::{AllocError, Global};
+use std::alloc::Global;
 use std::io::BufRead;
 
 /// Executes a request and appends its answer: that of a conversation of exactly these bytes, which begins at
 /// the book as it is. A body or a group that has not ended has its fault; an empty request has an empty
 /// answer; several commands have their answers in order. Lines count from the start of the request.
 ///
-/// `executed` becomes the number of commands that were executed, each blank line and comment among them. After
-/// a fault these are the first ones of the request, the book has their effects and no others, and their
-/// answers are there, except perhaps the last one.
-#[tactic(auto, using(crate::proofs::RequestLemmas::begins_executing))]
+/// `executed` becomes the number of commands that are settled, each blank line and comment among them: each was
+/// executed, or is answered `memory` and has changed nothing. After a fault these are the first ones of the
+/// request, the book has their effects and no others, and their answers are there, except perhaps the last one.
 pub fn answer_request(
     alloc: Global,
     book: &mut Book<State>,
@@ -34,20 +35,33 @@ pub fn answer_request(
         × AnswersSome book.old request.now text book.new executed.new) }
     ensures unanswered { IfErr result IsUnanswered }
 {
+    let mut diagnostic = Diagnostic::new();
+    answer_commands(alloc, book, &mut diagnostic, request, executed, answer)
+}
+
+// Executes the commands of a request and appends their answers, from the first diagnostic on.
+fn answer_commands(
+    alloc: Global,
+    book: &mut Book<State>,
+    diagnostic: &mut Diagnostic,
+    request: &[u8],
+    executed: &mut usize,
+    answer: &mut Vec<u8>,
+) -> Result<(), TalkFault>
+    requires { diagnostic.old ≡ no_diagnostic }
+    ensures answers { IfOk result (λ _. (text : List ℕ) × (answer.new.items ≡ answer.old.items ++ text)
+        × AnswersRequest book.old request.now text book.new) }
+    ensures all_executed { OnOk result (HasCommands request.now executed.new) }
+    ensures some_executed { IfErr result (λ why. (text : List ℕ) × (answer.new.items ≡ answer.old.items ++ text)
+        × AnswersSome book.old request.now text book.new executed.new) }
+    ensures unanswered { IfErr result IsUnanswered }
+{
     let mut reader = request;
     let mut lines = 0;
-    let mut diagnostic = Diagnostic::new(alloc);
     *executed = 0;
     loop {
         let after = executed.saturating_add(one_unless_empty(reader));
-        match append_step(
-            alloc,
-            book,
-            &mut lines,
-            &mut diagnostic,
-            &mut reader,
-            answer,
-        ) {
+        match append_step(alloc, book, &mut lines, diagnostic, &mut reader, answer) {
             Ok(true) => *executed = after,
             Ok(false) => {
                 *executed = after;
@@ -106,19 +120,17 @@ fn append_step<R: BufRead>(
 
 // Appends the answer to a command: a text, or out of memory. If it can't be stored, the answer is unchanged;
 // a command that ran out of memory was not executed.
-fn append_response(answer: &mut Vec<u8>, response: &Result<Vec<u8>, AllocError>) -> Result<(), Halt>
+fn append_response(answer: &mut Vec<u8>, response: &Response) -> Result<(), Halt>
     ensures { MatchResult result
-        (λ _. answer.new.items ≡ answer.old.items ++ answer_or_memory response.now)
+        (λ _. answer.new.items ≡ answer.old.items ++ written response.now)
         (λ halt. (answer.new.items ≡ answer.old.items) × IsHaltOf response.now halt) }
 {
+    let Err(_) = hold(answer, response.bytes()) else {
+        return Ok(());
+    };
     match response {
-        Ok(text) => match hold(answer, text) {
-            Ok(()) => Ok(()),
-            Err(_) => Err(Halt::After),
-        },
-        Err(_) => match hold(answer, b"memory\n") {
-            Ok(()) => Ok(()),
-            Err(_) => Err(Halt::Before(TalkFault::Memory)),
-        },
+        Response::Done(_) => Err(Halt::After),
+        Response::Failed { .. } => Err(Halt::After),
+        Response::OutOfMemory => Err(Halt::Before(TalkFault::Memory)),
     }
 }

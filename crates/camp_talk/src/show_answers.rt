@@ -4,7 +4,7 @@ ghost use Rattle.std.specs.List.{flat_map};
 ghost use Rattle.camp_talk.specs.Inside.Responses.{RendersFound};
 ghost use Rattle.camp_talk.specs.QuestionAnswers.{catch_line, patch_answer};
 
-use crate::answer_parts::{append_parts, both, counted_text, unanswered};
+use crate::answer_parts::{append_parts, both, counted_text};
 use camp_catch::Catch;
 use camp_notation::catch_text;
 use camp_questions::{Shown, Unanswered};
@@ -16,16 +16,16 @@ use std::alloc::{AllocError, Global};
 pub(crate) fn render_shown(
     alloc: Global,
     found: Result<Shown, Unanswered>,
-) -> Result<Vec<u8>, AllocError>
-    ensures { IfOk result (λ text. RendersFound patch_answer found text.items) }
+) -> Result<Vec<u8>, Unanswered>
+    ensures { RendersFound patch_answer found result }
 {
     match found {
         Ok(patch) => {
             let catches = catch_lines(alloc, patch.catches());
             let text = both(catches, changes_text(alloc, patch.changes()));
-            counted_text(alloc, "show", text)
+            Ok(counted_text(alloc, "show", text)?)
         }
-        Err(why) => unanswered(alloc, why),
+        Err(why) => Err(why),
     }
 }
 

@@ -3,18 +3,18 @@ ghost use Rattle.std.specs.Prelude.{◌≡◌, ◌+◌, true, IfOk, IfErr};
 ghost use Rattle.camp_talk.specs.Inside.ExecutingNext.{ExecutesNext};
 ghost use Rattle.camp_talk.specs.Talks.{HasGrown, ReadsNone, TakesStep};
 
-use crate::answers::{respond, write_answer_or_memory};
+use crate::answers::{respond, write_response};
 use crate::readings::{count_lines, read_command};
+use crate::responses::Response;
 use crate::{Diagnostic, TalkFault};
 use camp_repo::{Book, State};
-use std::alloc::{AllocError, Global};
+use std::alloc::Global;
 use std::io::{BufRead, Write};
 
 /// A command that was read and executed.
 #[derive(Drop)]
 pub(crate) struct ExecutedCommand {
-    /// The response, or out of memory.
-    pub(crate) response: Result<Vec<u8>, AllocError>,
+    pub(crate) response: Response,
     /// The line number of its first line.
     pub(crate) line: u64,
     /// The number of lines read so far, with its own.
@@ -52,8 +52,7 @@ pub(crate) fn execute_next<R: BufRead>(
         drop(command);
         return Err(TalkFault::Internal);
     };
-    let response = respond(alloc, book, lines, diagnostic, &command);
-    drop(command);
+    let response = respond(alloc, book, lines, diagnostic, command);
     Ok(ExecutedCommand {
         response,
         line,
@@ -79,7 +78,7 @@ pub fn take_step<R: BufRead, W: Write>(
     ensures counts { IfOk result (λ more. more ≡ true → HasGrown lines.old lines.new) }
 {
     let executed = execute_next(alloc, book, *lines, diagnostic, reader)?;
-    write_answer_or_memory(writer, &executed.response)?;
+    write_response(writer, &executed.response)?;
     *lines = executed.lines;
     Ok(executed.is_whole)
 }

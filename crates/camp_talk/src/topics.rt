@@ -2,16 +2,13 @@
 ghost use Rattle.std.specs.Option.{option_copied};
 ghost use Rattle.std.specs.Prelude.{◌≡◌, map};
 ghost use Rattle.camp_script.specs.Gives.{Gives};
-ghost use Rattle.camp_script.specs.Lines.{lines_of, words_of};
-ghost use Rattle.camp_script.specs.Pieces.{begins_with};
-ghost use Rattle.camp_talk.specs.Parsing.{first_begun, first_numbered, first_of, help_line, reason_at, refusal_topic, topic_at, word_topic};
-ghost use Rattle.camp_talk.specs.Help.{example};
+ghost use Rattle.camp_talk.specs.Parsing.{first_begun, first_numbered, help_line, reason_at, refusal_topic, topic_at, word_topic};
 
-use crate::help_answers::{commands, example};
-use crate::parsing::{first_line, is_word};
+use crate::help_answers::{commands, topic_word};
+use crate::parsing::is_word;
 use crate::questions::{Reason, Topic};
 use crate::refusal_texts::{reason_number, reasons};
-use camp_script::{FaultKind, ScriptFault, at_line, begins_with};
+use camp_script::{FaultKind, ScriptFault, at_line};
 
 /// Parses the topic of help from the words after `help`.
 pub(crate) fn help_topic(words: &[&[u8]]) -> Result<Topic, ScriptFault>
@@ -48,8 +45,8 @@ fn refusal_topic(word: &[u8], number: &[u8]) -> Result<Topic, ScriptFault>
     }
 }
 
-/// Returns the reason with this number of a refusal.
-pub(crate) fn reason_at(number: &[u8]) -> Option<Reason>
+// Returns the reason with this number of a refusal.
+fn reason_at(number: &[u8]) -> Option<Reason>
     ensures { result ≡ reason_at number.now }
 {
     let reasons = reasons();
@@ -77,16 +74,11 @@ fn topic_at(word: &[u8]) -> Result<Topic, ScriptFault>
     }
 }
 
-// Returns the first command whose example begins with this word.
+// Returns the first of some commands that a word begins.
 fn first_begun<'a>(word: &[u8], commands: &'a [Topic]) -> Option<&'a Topic>
     ensures { option_copied result ≡ first_begun word.now commands.now }
 {
-    commands.iter().find(|command| begins(word, **command))
-}
-
-// True if the example of a command begins with this word.
-fn begins(word: &[u8], command: Topic) -> bool
-    ensures { result ≡ begins_with word.now (words_of (first_of (lines_of (example command)))) }
-{
-    begins_with(first_line(example(command).as_bytes()), word)
+    commands
+        .iter()
+        .find(|command| is_word(topic_word(**command).as_bytes(), word))
 }

@@ -10,11 +10,11 @@ ghost use Rattle.camp_talk.specs.Views.{AnswersView, ShowsAnswer, beyond_text};
 ghost use Rattle.camp_talk.specs.declared.questions.ParsedCommand.{ParsedCommand as SpecParsedCommand};
 
 use crate::answer_parts::joined;
-use crate::answers::fault_text;
 use crate::lines::hold;
-use crate::question_answers::answer_at;
+use crate::question_answers::text_at;
 use crate::questions::{ParsedCommand, Question};
 use crate::readings::{Command, count_lines, read_command};
+use crate::responses::fault_text;
 use crate::{State, TalkFault};
 use camp_repo::{Call, Decided};
 use camp_script::{ScriptFault, answer_text};
@@ -155,7 +155,7 @@ fn show_answer_of(
 {
     match question {
         Question::History | Question::Keep => beyond_text(alloc, before),
-        other => answer_at(alloc, &[], state, other),
+        other => text_at(alloc, &[], state, other),
     }
 }
 

@@ -13,10 +13,10 @@ use Rattle.camp_call.specs.declared.replies.Refusal.{Refusal}
 use Rattle.camp_call.specs.declared.replies.Refusal.TheVariants.{Depends, Diverged, NoBranch, NoPatch, NothingToDo, SameBranch, TooLarge}
 use Rattle.camp_repo.specs.Lawful.{IsLawfulState}
 use Rattle.camp_repo.specs.Outcomes.{pulled}
-use Rattle.camp_questions.specs.Along.{AlongOr, AreAlong, ComesAlong, OfTwo, ReportsAlong}
+use Rattle.camp_questions.specs.Along.{AlongOr, AreAlong, AreNamesToPull, OfTwo, ReportsAlong}
 use Rattle.camp_questions.specs.Answers.{AnswerOf, OfBranch, OfPatches, ReportsAnswer}
 use Rattle.camp_questions.specs.Dependencies.{AreHeldBy, HeldBy}
-use Rattle.camp_questions.specs.Laws.{AlongIsEnough, HeldCanGo}
+use Rattle.camp_questions.specs.Laws.{AlongIsEnough, HeldCanBeTakenOut}
 use Rattle.camp_questions.specs.declared.faults.Unanswered.{Unanswered}
 use Rattle.camp_questions.specs.declared.faults.Unanswered.TheVariants.{Refused, Memory}
 use Rattle.camp_questions.proofs.AlongEnough.{none_left}
@@ -89,7 +89,7 @@ record IsAlong (state : Contents) (from to : List ℕ) (names told : List (List 
   from_has : Has state from theirs
   to_has : Has state to ours
   all : first_lacked theirs names ≡ None
-  comes : ComesAlong theirs ours names told
+  comes : AreNamesToPull theirs ours names told
 
 module _ (state : Contents) (from to : List ℕ) (names : List (List ℕ)) where
   -- a question about the catches of two branches
@@ -235,7 +235,7 @@ not_none names some e = let none : length names ≡ 0 = ap length e in absurd (o
 accepted_and_answered : {A : Type 0} (decision : Decision) (next : Contents) (answer : Reply) → decision ≡ Next next → Answer answer ≡ decision → A
 accepted_and_answered decision next answer v w = cc
 
-module _ (state : Contents) (branch : List ℕ) (names : List (List ℕ)) (some : 0 < length names) (can : HeldCanGo) (effect : AcceptedCallsHaveEffect) (lawful : IsLawfulState state) where
+module _ (state : Contents) (branch : List ℕ) (names : List (List ℕ)) (some : 0 < length names) (can : HeldCanBeTakenOut) (effect : AcceptedCallsHaveEffect) (lawful : IsLawfulState state) where
   module _ (held : List (List ℕ)) (told : AreHeldBy state branch names (Ok held)) where
     found_held : IsAnswered state branch names (Related HeldBy names) (Ok held)
     found_held = answered state branch names (Related HeldBy names) (Ok held) held refl told

@@ -1,5 +1,5 @@
 -- A book that is stored as a text and read again.
-use Rattle.camp_uses.proofs.Words.{◌≡◌, ◌≤◌, ℕ, List, [], ◌∷◌, length, Result, Ok, sym, ◌∙◌, ap, subst, AllByRecursion, IsLegal, replay, Fault, Call, Reply, OneByOne, repository, KeptLeadsBack, moved_to_seat_0, history_from, CanStand, calls_of, kept_text, script_of}
+use Rattle.camp_uses.proofs.Words.{◌≡◌, ◌≤◌, ℕ, List, [], ◌∷◌, length, Result, Ok, sym, ◌∙◌, ap, subst, AllByRecursion, IsLegal, replay, Fault, Call, Reply, OneByOne, repository, KeptLeadsBack, moved_to_seat_0, history_from, CanBeInScript, calls_of, kept_text, script_of}
 use Rattle.camp_object.proofs.Replays.{state_of_legal}
 use Rattle.camp_object.proofs.SameBooks.{same_book}
 use Rattle.camp_object.specs.Books.{Booked, replay_book}
@@ -13,7 +13,7 @@ use Rattle.camp_uses.specs.StoredBooks.{book_at_seat_0}
 
 -- the new history has the calls of the stored one, in order, and its state
 calls_preserved : KeptLeadsBack → OneByOneIsSerial → (limits : Bounds) (kept : List (ℕ × Call)) (text : List ℕ) (script sections : List (List Call)) (answers : List (List (Result Reply Fault))) (again : List (ℕ × Call))
-    → IsLegal (repository_within limits) kept → AllByRecursion CanStand (calls_of kept) → length kept ≤ 65_536 → text ≡ kept_text kept → script_of text ≡ Ok script → sections ≡ script
+    → IsLegal (repository_within limits) kept → AllByRecursion CanBeInScript (calls_of kept) → length kept ≤ 65_536 → text ≡ kept_text kept → script_of text ≡ Ok script → sections ≡ script
     → IsLegal (repository_within limits) again → OneByOne (repository_within limits) 0 [] sections answers again
     → (again ≡ moved_to_seat_0 kept) × (replay (repository_within limits) again ≡ replay (repository_within limits) kept)
 calls_preserved keeps serial limits kept text script sections answers again led stand few written reads are legal asked =
@@ -27,7 +27,7 @@ calls_preserved keeps serial limits kept text script sections answers again led 
 -- the new book begins as the stored one does, and has its calls and its state
 pub book_preserved : KeptLeadsBack → OneByOneIsSerial → (kept again : Booked Contents Call) (first : Contents) (text : List ℕ) (script sections : List (List Call)) (answers : List (List (Result Reply Fault)))
     → IsFirst repository kept.first → first ≡ kept.first → again.first ≡ first
-    → IsLegal (begun repository kept.first) kept.calls → AllByRecursion CanStand (calls_of kept.calls) → length kept.calls ≤ 65_536 → text ≡ kept_text kept.calls → script_of text ≡ Ok script → sections ≡ script
+    → IsLegal (begun repository kept.first) kept.calls → AllByRecursion CanBeInScript (calls_of kept.calls) → length kept.calls ≤ 65_536 → text ≡ kept_text kept.calls → script_of text ≡ Ok script → sections ≡ script
     → IsLegal (begun repository again.first) again.calls → OneByOne (begun repository first) 0 [] sections answers again.calls
     → (again ≡ book_at_seat_0 kept) × (replay_book repository again ≡ replay_book repository kept)
 book_preserved keeps serial kept again first text script sections answers is begins same led stand few written reads are legal asked =

@@ -29,7 +29,7 @@ pub use Rattle.camp_repo.specs.Steps.{Decision, becomes, is_empty, is_full_with,
 pub use Rattle.camp_run.specs.StoredTexts.{KeptLeadsBack, moved_to_seat_0}
 pub use Rattle.camp_run.specs.Serial.{history_from}
 pub use Rattle.camp_script.specs.Canonical.{ReadsBack, call_text}
-pub use Rattle.camp_script.specs.Keeping.{CanStand, calls_of, kept_text}
+pub use Rattle.camp_script.specs.Keeping.{CanBeInScript, calls_of, kept_text}
 pub use Rattle.camp_script.specs.Reading.{script_of}
 pub use Rattle.camp_script.specs.declared.faults.LineFault.{LineFault}
 pub use Rattle.camp_seq.specs.Merging.{CleanMerge}

@@ -14,7 +14,7 @@ use Rattle.camp_call.specs.declared.replies.Reply.{Reply}
 use Rattle.camp_call.specs.declared.replies.Reply.TheVariants as reply
 use Rattle.camp_repo.specs.Laws.{Has, Pulls}
 use Rattle.camp_repo.specs.States.{Contents, catches_of}
-use Rattle.camp_questions.specs.Along.{ComesAlong}
+use Rattle.camp_questions.specs.Along.{AreNamesToPull}
 use Rattle.camp_questions.specs.Answers.{AnswerOf, OfBranch, OfPatches}
 use Rattle.camp_questions.specs.Dependencies.{HeldBy}
 use Rattle.camp_questions.specs.Showing.{patch_in}
@@ -37,7 +37,7 @@ pub record PullsAlong (state : Contents) (from to : List ℕ) (names : List (Lis
   pub ours : List Catch
   pub to_has : Has state to ours
   pub told : List (List ℕ)
-  pub comes : ComesAlong theirs ours names told
+  pub comes : AreNamesToPull theirs ours names told
   pub pulls : Pulls from to (Some told) state next
   pub new : List Catch
   pub becomes : Has next to new
@@ -60,7 +60,7 @@ MayRefuseFor state from to names (BranchExists name) = ⊥
 MayRefuseFor state from to names (PatchExists name) = ⊥
 MayRefuseFor state from to names DoesNotApply = ⊥
 
--- the pull is refused for such a reason, or memory ran out
+-- a pull of patches with their dependencies is refused for one of the reasons of `MayRefuseFor`, or memory ran out
 abbrev pub MayRefuse : Contents → List ℕ → List ℕ → List (List ℕ) → Unanswered → Type 0
 MayRefuse state from to names (Refused refusal) = MayRefuseFor state from to names refusal
 MayRefuse state from to names Memory = Unit {0}

@@ -22,7 +22,7 @@ pub record HistoryHasTree (limits : Bounds) (history : List (ℕ × Call)) (bran
   pub has : Has state branch catches
   pub leads : LeadsTo catches tree
 
--- after such a history there is no branch of this name
+-- after a history of a repository with these limits there is no branch of this name
 pub record HistoryLacksBranch (limits : Bounds) (history : List (ℕ × Call)) (branch : List ℕ) : Type 0 where
   pub state : Contents
   pub replays : replay (repository_within limits) history ≡ Some state

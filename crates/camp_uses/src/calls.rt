@@ -24,7 +24,7 @@ pub fn record(branch: Name, name: Name, prims: Vec<Primitive>) -> Option<Call>
     })
 }
 
-/// Returns a copy of a call, and whether the two are equal, which they are.
+/// Copies a call, and compares the copy with it: the two are equal.
 pub fn copied(call: &Call) -> Result<(Call, bool), AllocError>
     ensures copy { IfOk result (λ both. both.0 ≡ call.now) }
     ensures same { IfOk result (λ both. both.1 ≡ true) }

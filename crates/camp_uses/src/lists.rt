@@ -15,7 +15,7 @@ use camp_seq::{
 };
 use std::alloc::AllocError;
 
-/// A list and then its inverse leave the tree as it was.
+/// Applies a list and then its inverse: the tree is as it was.
 pub fn do_and_undo(list: &Seq, tree: &mut Tree) -> Result<(), Apply>
     ensures unchanged { OnOk result (tree.new ≡ tree.old) }
 {

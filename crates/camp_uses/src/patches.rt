@@ -5,7 +5,7 @@ ghost use Rattle.camp_prim.specs.Effect.{Leads};
 use camp_base::{Apply, Tree};
 use camp_prim::{Named, applied_is_applies, commute, inverse_leads_back};
 
-/// A patch and then its inverse leave the tree as it was.
+/// Applies a patch and then its inverse: the tree is as it was.
 pub fn do_and_undo(patch: &Named, tree: &mut Tree) -> Result<(), Apply>
     ensures unchanged { OnOk result (tree.new ≡ tree.old) }
 {

@@ -5,7 +5,7 @@ ghost use Rattle.camp_uses.specs.Questioned.{GoesWithHeld, IsReadBack, IsRefusal
 
 use crate::calls::record;
 use camp_base::Name;
-use camp_questions::{Unanswered, along, along_is_enough, held_by, held_can_go, show};
+use camp_questions::{Unanswered, along, along_is_enough, held_by, held_can_be_taken_out, show};
 use camp_repo::{Call, Decided, Refusal, Reply, State, accepted_calls_have_effect};
 use camp_script::{Script, accepted_text, canonical_text_reads_back, read_script};
 use std::alloc::Global;
@@ -56,7 +56,7 @@ pub fn obliterate_held(state: &State, branch: &Name, names: &[Name]) -> Result<S
     requires some { 0 < length names.now }
     ensures told { ReportsAnswer (GoesWithHeld state.now branch.now names.now) result }
 {
-    held_can_go();
+    held_can_be_taken_out();
     accepted_calls_have_effect();
     let _lawful = state.count();
     let held = held_by(state, branch, names)?;
@@ -71,7 +71,7 @@ pub fn obliterate_held(state: &State, branch: &Name, names: &[Name]) -> Result<S
 }
 
 /// Shows a patch, writes it as a record in the branch `to`, and reads that as a script: it contains exactly the changes
-/// that were shown. `None` if they are none, or more than a patch may have.
+/// that were shown. `None` if the patch has no changes, or more than a record may have.
 pub fn show_and_read(
     alloc: Global,
     state: &State,

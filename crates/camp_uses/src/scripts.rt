@@ -14,7 +14,7 @@ pub fn done(alloc: Global, at: u64) -> Result<Vec<u8>, AllocError>
     answer_text(alloc, &Ok(Reply::Done(at)))
 }
 
-/// Returns the script that no bytes are: one section, without a call.
+/// Reads an empty input as a script: it has one section, without a call.
 pub fn empty(alloc: Global) -> Result<Script, ScriptFault>
     ensures script { IfOk result (λ script. script ≡ [] ∷ []) }
     ensures fault { IfErr result (λ why. why ≡ fault.Memory) }

@@ -36,7 +36,7 @@ abbrev pub cause_or : Option Cause → Option Cause → Option Cause
 cause_or None second = second
 cause_or (Some cause) second = Some cause
 
--- the cause that a side of this change is too long: the number of the change, the path of its file, and the number of
+-- the cause if a side of this change is too long: the number of the change, the path of its file, and the number of
 -- lines of each side
 abbrev pub long_cause : ℕ → Primitive → Option Cause
 long_cause at (Add path) = None
@@ -66,7 +66,7 @@ record_cause most changes (Some catches) =
     if nat_lt most (length catches + length changes) then Some (FullBranch (length catches) (length changes) most)
     else cause_or (first_long 1 changes) (stop_from changes (tree_of catches))
 
--- the cause that a repository has as many branches as its limits allow
+-- the cause if a repository has as many branches as its limits allow
 abbrev pub branch_cause : Contents → Refusal → Option Cause
 branch_cause state refusal = if is_of_limit refusal then Some (FullRepository (length state.branches) state.limits.branches) else None
 
@@ -74,13 +74,13 @@ branch_cause state refusal = if is_of_limit refusal then Some (FullRepository (l
 abbrev pub brought : List Catch → List Catch → Option (List (List ℕ)) → List Catch
 brought theirs ours names = catches_named (wanted ours (listed theirs names)) theirs
 
--- the cause that a branch would have more catches than this limit with those that a pull appends
+-- the cause if the catches that a pull appends would bring a branch above this limit
 abbrev pub full_with_pull : ℕ → Option (List Catch) → Option (List Catch) → Option (List (List ℕ)) → Option Cause
 full_with_pull most (Some theirs) (Some ours) names =
     Some (FullWithPull (length ours) (length (brought theirs ours names)) most)
 full_with_pull most theirs ours names = None
 
--- the cause that a branch would be too long after a pull between these branches
+-- the cause if a branch would be too long after a pull between these branches
 abbrev pub pull_cause : Contents → List ℕ → List ℕ → Option (List (List ℕ)) → Refusal → Option Cause
 pull_cause state from to names refusal =
     if is_of_limit refusal

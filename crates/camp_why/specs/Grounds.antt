@@ -44,7 +44,7 @@ abbrev pub LacksOf : Contents → List ℕ → Option (List (List ℕ)) → List
 LacksOf state branch names name =
     (catches : List Catch) × Has state branch catches × (first_lacked catches (listed catches names) ≡ Some name)
 
--- a call lists a patch that the branch from which it takes patches lacks
+-- a call takes this patch from a branch that lacks it
 abbrev pub LacksPatch : Contents → Call → List ℕ → Type 0
 LacksPatch state (call.Pull from to names) name = LacksOf state from names name
 LacksPatch state (call.Obliterate branch names) name = LacksOf state branch (Some names) name

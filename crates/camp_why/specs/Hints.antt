@@ -68,7 +68,7 @@ is_end line = bytes_eq line (codes "end")
 abbrev pub is_empty_line : List ℕ → Bool
 is_empty_line line = length line == 0
 
--- a line is a replacement for one with too many bytes: it has 4,098 bytes, the second of them `?`
+-- a line replaces one that was too long: it has 4,098 bytes, and the second is `?`
 abbrev pub is_overlong : List ℕ → Bool
 is_overlong line = length line == 4098 && slice_index line 1 == 63
 
@@ -153,7 +153,7 @@ form_hint line =
     else (if begins_inner line then seen.OfInner
     else seen.Nothing))))
 
--- the hint on a line with an unknown command, given that word and the other words
+-- the hint on a line with an unknown command, given the word in its place; if no hint applies, the other hint
 abbrev pub line_hint : List ℕ → List ℕ → Hint → Hint
 line_hint line word other =
     if is_overlong line then seen.TooLong
@@ -233,12 +233,12 @@ faulty BadPath line = path_word line
 faulty BadNumber line = number_word line
 faulty other line = line
 
--- it ends with a carriage return; or, with too few or too many words, one of them is only a carriage return
+-- the faulty word ends with a carriage return; if the number of words is wrong: one of them is only a carriage return
 abbrev pub has_return : FaultKind → List ℕ → Bool
 has_return WrongNumberOfWords line = list_any is_return (words_of line)
 has_return kind line = ends_in_return (faulty kind line)
 
--- it has a quotation mark; or, with too few or too many words, one of them begins with one
+-- the faulty word has a quotation mark; if the number of words is wrong: one of them begins with a quotation mark
 abbrev pub has_quote : FaultKind → List ℕ → Bool
 has_quote WrongNumberOfWords line = list_any begins_quoted (words_of line)
 has_quote kind line = list_any is_quote (faulty kind line)

@@ -37,7 +37,7 @@ lacking hunk has = slice_get hunk.old (has - (hunk.line - 1))
 abbrev pub lacking_at : Edit → ℕ → ℕ
 lacking_at hunk has = suc (hunk.line - 1 + (has - (hunk.line - 1)))
 
--- the reason that a file of this length ends before an edit does; none if it does not
+-- the reason if an edit reaches past the end of a file with `has` lines; else none
 abbrev pub ends_before : Edit → ℕ → Option Misfit
 ends_before hunk has =
     if nat_lt has (hunk.line - 1 + length hunk.old)
@@ -104,8 +104,8 @@ AreInFile hunk lines count =
     (at : ℕ) (actual expected : List ℕ) → at < count → slice_get hunk.old at ≡ Some expected →
     slice_get lines (hunk.line - 1 + at) ≡ Some actual → actual ≡ expected
 
--- an edit needs at least this number of lines, and the file has fewer; its old lines up to the end of the file are the
--- file's, and this is the first one after that, at this line number
+-- an edit needs a file of at least `wants` lines, and the file has only `has`; up to the end of the file the edit's old
+-- lines are the file's; `lacks` is the first old line past the end, and would be line `at`, counted from 1
 pub record ReachesBehind (change : Primitive) (tree : Files) (has wants at : ℕ) (lacks : Option (List ℕ)) : Type 0 where
   pub hunk : Edit
   pub lines : Lines

@@ -18,12 +18,12 @@ use Rattle.camp_why.specs.declared.stops.Stop.{Stop}
 
 -- ---- the reported change and reason
 
--- the reason that a file is too long, given what is at its path
+-- the reason if a file is too long, given what is at its path; else none
 abbrev pub long_file : Option Lines → Option Hindrance
 long_file None = None
 long_file (Some lines) = if nat_lt longest_file (length lines) then Some (TooLong (length lines)) else None
 
--- the reason that the file of a change is too long in this tree; none if it is not
+-- the reason if the file of a change is too long in this tree; else none
 abbrev pub made_long : List ℕ → Option Files → Option Hindrance
 made_long path None = None
 made_long path (Some next) = long_file (get next path)

@@ -135,7 +135,7 @@ fn first_long(changes: &[Primitive]) -> Result<Option<Cause>, AllocError>
     Ok(None)
 }
 
-// Returns the cause that the change with this number has a side that is too long; `None` if it has not.
+// Returns the cause for a change, given its number, if one of its sides is too long; else `None`.
 fn long_cause(at: usize, change: &Primitive) -> Result<Option<Cause>, AllocError>
     ensures { IfOk result (λ found. found ≡ long_cause at change.now) }
 {

@@ -16,7 +16,7 @@ const CUT_BYTES: usize = 4098;
 pub enum Hint {
     /// No hint.
     Nothing,
-    /// The line begins with the sign of a line of a body, but is in none.
+    /// The line begins with `+` or `-`, but is not in a body.
     OfBody,
     /// The line is `client`, which is allowed only in scripts.
     OfScript,
@@ -26,9 +26,9 @@ pub enum Hint {
     NoCall,
     /// The first word is `help`, and no command follows.
     NoTopic,
-    /// The first word is that of a line of a body or a group, but the line is in none.
+    /// The first word is allowed only in a body or a group, but the line is in neither.
     OfInner,
-    /// The line is a replacement for one that is too long.
+    /// The line was too long when it was read, and was replaced.
     TooLong,
     /// The line or a word of it ends with a carriage return, or a word is only that.
     CarriageReturn,
@@ -40,7 +40,7 @@ pub enum Hint {
     Capitals,
     /// A number is 0.
     Zero,
-    /// The number of a refusal has a leading zero, and so is the number of none.
+    /// The number of a refusal has a leading zero, so there is no such refusal.
     ZeroInFront,
     /// The line is empty.
     Empty,
@@ -48,7 +48,7 @@ pub enum Hint {
     Blank,
     /// The line is `end`, but the body has no line.
     NoLine,
-    /// The line is `end`, but LINE and the lines of the body add up to too much.
+    /// The line is `end`, but the sum of LINE and the number of lines of the body is too large.
     TooFar,
     /// The first word is `end`, but others follow.
     MoreThanEnd,
@@ -75,7 +75,7 @@ pub fn find_hint(kind: FaultKind, line: &[u8]) -> Hint
     }
 }
 
-// Returns the hint on a line with an unknown command, given that word and the other words.
+// Returns the hint on a line with an unknown command, given the word in its place; if no hint applies, the other hint.
 fn line_hint(line: &[u8], word: &[u8], other: Hint) -> Hint
     ensures { result ≡ line_hint line.now word.now other }
 {
@@ -393,7 +393,7 @@ fn is_end(line: &[u8]) -> bool
     line == b"end".as_slice()
 }
 
-// True if a line is the replacement for one that is too long.
+// True if a line replaces one that was too long.
 fn is_overlong(line: &[u8]) -> bool
     ensures { result ≡ is_overlong line.now }
 {

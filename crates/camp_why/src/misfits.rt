@@ -11,11 +11,11 @@ use std::alloc::AllocError;
 /// Why a change does not apply to a tree.
 #[derive(Debug, Drop)]
 pub enum Misfit {
-    /// A file would be added where there is one.
+    /// The change adds a file at a path that has one.
     FileIsThere,
-    /// A file would be removed or edited where there is none.
+    /// The change removes or edits a file at a path that has none.
     NoFile,
-    /// A file would be removed that has this number of lines.
+    /// The change removes a file that still has this number of lines.
     HasLines(usize),
     /// An edit reaches past the last line of the file: the file has `has` lines, and the edit needs at least
     /// `wants`. `lacks` is the first old line past its end, and would be line `at`, counted from 1.
@@ -92,7 +92,7 @@ fn other_line(hunk: &Hunk, lines: &SharedList<Line>) -> Result<Option<Misfit>, A
     Ok(None)
 }
 
-// Returns the reason that a file of this length ends before an edit does; `None` if it does not.
+// Returns the reason if an edit reaches past the end of a file with `has` lines; else `None`.
 fn ends_before(hunk: &Hunk, has: usize) -> Result<Option<Misfit>, AllocError>
     ensures { IfOk result (λ found. found ≡ ends_before hunk.now has) }
 {

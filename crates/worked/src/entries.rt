@@ -20,7 +20,7 @@ pub(crate) enum Play {
     Seen,
 }
 
-/// The first words of such entries. A command begins with the number of a seat instead.
+/// The first words of entries that use a book, a head or a run. A command begins with the number of a seat instead.
 const PLAYS: &[(&str, Play)] = &[
     ("adopted", Play::Adopted),
     ("book", Play::Book),

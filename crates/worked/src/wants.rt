@@ -31,8 +31,9 @@ impl Wants {
     }
 }
 
-/// Makes and frees allocations so that the refused one, whose number in the run is the second argument, is the one with
-/// the first argument as its number in the table. Makes none without a second argument.
+/// Makes and frees allocations before the table is read. The test refuses one allocation of the process, whose number
+/// is the second argument; after these it is the one whose number within the table is the first argument. Makes none
+/// without a second argument.
 pub(crate) fn allocate_before(rt: &impl Env, alloc: Global) -> io::Result<()> {
     match (number_at(rt, 1)?, number_at(rt, 2)?) {
         (Some(number), Some(refused)) => {

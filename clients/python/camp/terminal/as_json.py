@@ -11,7 +11,7 @@ from typing import Iterator, Optional, Sequence
 
 from ..errors import Unexpected
 from ..json_form import convert, convert_back, next_response, to_json
-from .backend import Ended, NotDone, find_program
+from .backend import Ended, LogPlace, NotDone, find_program
 from .commands import next_command
 from .run import FAILED, open_backend
 from .screen import complain
@@ -26,7 +26,7 @@ def turn(is_back: bool) -> int:
     return 0
 
 
-def run_json(store: Optional[str], loads: Sequence[str], log: Optional[str]) -> int:
+def run_json(store: Optional[str], loads: Sequence[str], log: Optional[LogPlace]) -> int:
     """Holds a conversation whose responses are objects, and returns the exit status."""
     try:
         if log is not None:
@@ -42,10 +42,10 @@ def run_json(store: Optional[str], loads: Sequence[str], log: Optional[str]) -> 
         return failed(error, FAILED)
 
 
-def talk_over_log(address: str) -> int:
+def talk_over_log(log: LogPlace) -> int:
     """A conversation over a log, in which lines of faults count from the first line of each command. What could not be done is
     `{"answer": "not done", "why": ..}`, and the conversation goes on."""
-    backend, cause = open_backend(None, (), address), b""
+    backend, cause = open_backend(None, (), log), b""
     try:
         while True:
             command = next_command(sys.stdin.buffer)

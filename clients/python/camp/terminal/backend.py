@@ -8,7 +8,7 @@ import select
 import shutil
 import subprocess
 import tempfile
-from typing import Optional, Protocol, Sequence
+from typing import NamedTuple, Optional, Protocol, Sequence
 
 from . import interrupts
 from .progress import PAUSE, Progress
@@ -20,6 +20,12 @@ to the program."""
 
 # Seconds after the end of its input in which the program has to end.
 PATIENCE = 3
+
+
+class LogPlace(NamedTuple):
+    """The address of a log that is shared, and the file that keeps what is read of it, if there is one."""
+    address: str
+    kept: Optional[str] = None
 
 
 class Backend(Protocol):

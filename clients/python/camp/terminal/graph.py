@@ -4,10 +4,11 @@ from __future__ import annotations
 
 import argparse
 import sys
+from typing import Optional
 
 from ..errors import Error
 from ..pictures import picture
-from .backend import Ended
+from .backend import Ended, LogPlace
 from .commands import wrong_name
 from .run import open_backend
 from .screen import complain
@@ -15,14 +16,14 @@ from .screen import complain
 NOT_THERE = 1
 
 
-def draw(given: argparse.Namespace) -> int:
+def draw(given: argparse.Namespace, log: Optional[LogPlace]) -> int:
     """Writes the picture that a command line asks for, and returns the exit status."""
     wrong = wrong_name([given.branch, *given.patches])
     if wrong:
         complain(wrong)
         return NOT_THERE
     try:
-        backend = open_backend(given.store, given.load, given.log)
+        backend = open_backend(given.store, given.load, log)
         try:
             text = picture(backend.ask, given.branch, given.patches, given.open)
         finally:

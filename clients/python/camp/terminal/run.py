@@ -8,7 +8,7 @@ from typing import Optional, Sequence
 
 from ..errors import Unexpected
 from . import interrupts
-from .backend import Backend, Ended, NotDone, NotLoaded, Program, open_store
+from .backend import Backend, Ended, LogPlace, NotDone, NotLoaded, Program, open_store
 from .completion import Completion, all_words
 from .files import BadFile, check_target, write_whole
 from .keyboard import EndOfInput, Interrupted, Keyboard, Lines, Pipe
@@ -19,11 +19,11 @@ from .screen import ALARM, complain, counted, standard_screen
 FAILED, INTERRUPTED, UNREAD = 3, 130, 141
 
 
-def open_backend(store: Optional[str], loads: Sequence[str], log: Optional[str]) -> Backend:
+def open_backend(store: Optional[str], loads: Sequence[str], log: Optional[LogPlace]) -> Backend:
     """What answers: the repository of a log or of a store, or a new one."""
     if log is not None:
         from .shared_log import SharedLog
-        return SharedLog(log)
+        return SharedLog(*log)
     options = ["--load", *loads] if loads else []
     try:
         return Program(options) if store is None else open_store(store, options)
@@ -32,7 +32,7 @@ def open_backend(store: Optional[str], loads: Sequence[str], log: Optional[str])
         raise (Ended if text == str(error) else NotLoaded)(text) from error
 
 
-def write_completions(path: str, store: Optional[str], loads: Sequence[str], log: Optional[str]) -> int:
+def write_completions(path: str, store: Optional[str], loads: Sequence[str], log: Optional[LogPlace]) -> int:
     """Writes the words that rlwrap is to complete, one in a line, and returns the exit status."""
     try:
         check_target(path)
@@ -47,7 +47,7 @@ def write_completions(path: str, store: Optional[str], loads: Sequence[str], log
     return 0
 
 
-def run(store: Optional[str], loads: Sequence[str], log: Optional[str] = None) -> int:
+def run(store: Optional[str], loads: Sequence[str], log: Optional[LogPlace] = None) -> int:
     """Holds a conversation with a repository, which a store or a log keeps if one is named. Returns the exit status."""
     try:
         backend = open_backend(store, loads, log)

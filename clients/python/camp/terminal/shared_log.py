@@ -7,7 +7,7 @@ import sqlite3
 from typing import List, Optional, Set, Type
 
 from ..errors import Error, OutcomeUnknown
-from ..logs import Away, Damaged, Foreign, Log, open_log
+from ..logs import Away, Damaged, Foreign, Log, RememberedLog, open_log
 from ..shared import CALLS, LogRefused, Shared, Stopped
 from .backend import Ended, NotDone
 
@@ -24,14 +24,15 @@ class SharedLog:
 
     is_shared = True
 
-    def __init__(self, address: str) -> None:
+    def __init__(self, address: str, kept: Optional[str] = None) -> None:
         # A password is not shown.
         self.kept_in: Optional[str] = re.sub(r"(password=|://[^:/@]*:)[^\s@]+", r"\1..", address)
         self.notice = "Others may write to it: what they wrote is read before each command."
         self._news: List[str] = []
         self._trouble = ""
         try:
-            self._log: Log = open_log(address)
+            engine = open_log(address)
+            self._log: Log = RememberedLog(kept, engine) if kept else engine
             self._shared = Shared(self._log)
             self._shared.sync()
         except (ValueError, ImportError, Away, Foreign, Damaged, Error, sqlite3.Error, *_errors_of(address)) as error:

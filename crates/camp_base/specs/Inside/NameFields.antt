@@ -13,8 +13,8 @@ pub record IsPadded (name : Inside) : Type 0 where
   pub form : IsTrue (is_name (take name.len name.buffer))
   pub padding : padded (take name.len name.buffer) ≡ name
 
--- `sum` continued by `n` digits of base 256, most significant first: the next bytes, padded with zeros. `spelt 8 0
--- name` is the first eight bytes as a big-endian number
+-- `sum` with `n` more digits of base 256 appended, the most significant first: the next bytes of the list, and zeros if
+-- it ends. `spelt 8 0 name` is the first eight bytes as a big-endian number
 abbrev pub spelt : ℕ → ℕ → List ℕ → ℕ
 spelt zero sum bytes = sum
 spelt (suc n) sum [] = spelt n (sum * 256) []

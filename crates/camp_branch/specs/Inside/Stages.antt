@@ -19,7 +19,8 @@ abbrev pub DivergesIn : List (List ℕ) → List Catch → Blocked → Type 0
 DivergesIn names list blocked =
     (stuck : Key) × (on : Key) × ArrangeIsBlocked names list stuck on × (blocked ≡ Diverged stuck.name)
 
--- the common patches of one branch, put in the order of the other's, are not the same catches
+-- the common patches of one branch can't be put in their order in the other branch, or are different catches once they
+-- are
 abbrev pub DivergesFrom : List Catch → List Catch → Blocked → Type 0
 DivergesFrom from_common to_common blocked =
     ((stuck : Key) × AlignIsBlocked (keys_of to_common) from_common stuck × (blocked ≡ Diverged stuck.name))

@@ -2,7 +2,7 @@
 use Rattle.std.specs.Prelude.{◌≡◌, ◌≢◌, ℕ, List, ◌∷◌, ◌++◌, length, All, fold}
 use Rattle.camp_prim.specs.declared.labels.Key.{Key}
 use Rattle.camp_ctx.specs.Contexts.{ContextedPatch, with_member}
-use Rattle.camp_catch.specs.Arranging.{ComesFirst}
+use Rattle.camp_catch.specs.Arranging.{CatchMovesToFront}
 use Rattle.camp_catch.specs.Catches.{catch_key}
 use Rattle.camp_catch.specs.Commuting.{CommuteCatch}
 use Rattle.camp_catch.specs.Conflictors.{with_conflicts}
@@ -42,5 +42,5 @@ pub record FirstWithKey (key : Key) (list : List Catch) (at : ℕ) : Type 0 wher
   pub lacks : LacksKey key before
 
 -- the first catch with this absolute label is moved to the front
-abbrev pub ComesFirstInPlace : Key → List Catch → List Catch → Type 0
-ComesFirstInPlace key list t = (k' : Catch) × (others : List Catch) × ComesFirst key list k' others × (t ≡ k' ∷ others)
+abbrev pub CatchMovesToFrontInPlace : Key → List Catch → List Catch → Type 0
+CatchMovesToFrontInPlace key list t = (k' : Catch) × (others : List Catch) × CatchMovesToFront key list k' others × (t ≡ k' ∷ others)

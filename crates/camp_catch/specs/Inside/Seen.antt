@@ -17,18 +17,18 @@ pub record InvertsPatch (a : Named) (k : Conflictor) (l : ContextedPatch) (made 
   pub effect : Norm (inverse_of a ∷ k.effect) s'
   pub is : made ≡ with_effect s' (joined_by l k)
 
--- from (r, X, i) and l comes (s, X' and l, i'), where t added to X and to i gives X' and i'
+-- (r, X, i) becomes (s, X' and l, i'), where t added to X and to i gives X' and i'
 pub record JoinedAfter (t s : List Named) (k : Conflictor) (l : ContextedPatch) (made : Conflictor) : Type 0 where
   pub moved : Conflictor
   pub becomes : Becomes (λ effect. effect ≡ s) (AddsAll t) (AddsAll t) k moved
   pub is : made ≡ joined_by l moved
 
--- from (r, Y, l) and i comes (s, Y and i', l), where t added to i gives i'
-abbrev pub JoinedBySeen : List Named → ContextedPatch → Conflictor → Conflictor → Type 0
-JoinedBySeen t i k made = (i' : ContextedPatch) × AddsAll t i i' × (made ≡ joined_by i' k)
+-- (r, Y, l) becomes (s, Y and i', l), where t added to i gives i'
+abbrev pub JoinedByAdded : List Named → ContextedPatch → Conflictor → Conflictor → Type 0
+JoinedByAdded t i k made = (i' : ContextedPatch) × AddsAll t i i' × (made ≡ joined_by i' k)
 
--- from (common rr, X, i) and then (s, Y, l), where rr s <-> s' rr', come (common s', Z', l') and rr'; Z is Y without
--- the patch of the first conflictor, and rr' added to Z and l gives Z' and l'
+-- one of several conflicts goes: (s, Y, l) after (common rr, X, i) becomes (common s', Z', l') before it, where rr s
+-- <-> s' rr', Z is Y without the patch of the first conflictor, and rr' added to Z and l gives Z' and l'
 pub record LeavesTheOthers (j k moved : Conflictor) (rr' : List Named) : Type 0 where
   pub effect : List Named
   pub effects : EffectsPass j.effect k.effect (remove k.conflicts (context_key j.identity)) effect rr'

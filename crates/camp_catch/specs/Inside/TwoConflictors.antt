@@ -3,7 +3,7 @@ use Rattle.std.specs.Prelude.{◌≡◌, Bool, List, IsTrue, ◌↔◌}
 use Rattle.camp_prim.specs.declared.named.Named.{Named}
 use Rattle.camp_seq.specs.NormalOrder.{Norm}
 use Rattle.camp_ctx.specs.Adding.{AddsAll}
-use Rattle.camp_ctx.specs.Conflicts.{MergesBehindCommon, Conflict}
+use Rattle.camp_ctx.specs.Conflicts.{MergesCleanlyAfterCommon, Conflict}
 use Rattle.camp_ctx.specs.Contexts.{ContextedPatch, bare}
 use Rattle.camp_catch.specs.Merging.{JoinsWhere}
 use Rattle.camp_catch.specs.declared.catches.Catch.{Catch}
@@ -13,7 +13,7 @@ use Rattle.camp_catch.specs.declared.catches.Conflictor.{Conflictor}
 pub record EffectsMerge (r s s2 r2 : List Named) : Type 0 where
   pub merged : List Named
   pub left : List Named
-  pub merge : MergesBehindCommon r s merged left
+  pub merge : MergesCleanlyAfterCommon r s merged left
   pub effect : Norm merged s2
   pub own_effect : Norm left r2
 
@@ -32,7 +32,7 @@ pub record DecidesConflict (j k : Conflictor) (found : Bool) : Type 0 where
   pub tells : IsTrue found ↔ Conflict x y
 
 -- if the identities of two conflictors conflict, each gains the other's as a conflict; else both stay unchanged
-pub record JoinEachOther (in_conflict : Bool) (moved own : Conflictor) (k' j' : Catch) : Type 0 where
+pub record GainEachOther (in_conflict : Bool) (moved own : Conflictor) (k' j' : Catch) : Type 0 where
   pub joined : Conflictor
   pub own_joined : Conflictor
   pub joins : JoinsWhere (IsTrue in_conflict) own.identity moved joined

@@ -1,18 +1,20 @@
 //! Catches that merge with or commute past others one by one, and the conflicts that they gain on the way.
-ghost use Rattle.std.specs.Prelude.{◌≡◌, IfOk};
+ghost use Rattle.std.specs.Prelude.{◌≡◌, ◌≢◌, IfOk, IsTrue};
 ghost use Rattle.camp_base.specs.Answers.{Changes};
 ghost use Rattle.camp_catch.specs.Catches.{catch_key};
 ghost use Rattle.camp_catch.specs.Inside.InPlace.{CatchesCommuteInPlace, MergesInto, MergesInPlace, with_gained};
-ghost use Rattle.camp_catch.specs.Inside.Meetings.{MeetAs};
+ghost use Rattle.camp_catch.specs.Inside.Hashes.{hash_of};
+ghost use Rattle.camp_catch.specs.Inside.QuickChecks.{IsMergeCheck};
 ghost use Rattle.camp_catch.specs.declared.catches.Catch.{Catch as AnyCatch};
 
-use crate::fast::behind::merge_behind;
-use crate::fast::passing::{Passing, has_no_effect, passing_of};
+use crate::fast::after::merge_after;
+use crate::fast::hashes::{CatchHashes, hashes_differ, hashes_of};
+use crate::fast::passing::{CommuteCheck, check_commute, has_no_effect};
 use crate::merging_lists::merge_one;
 use crate::moves::commute_in_place;
 use crate::{Catch, Conflictor};
 use camp_ctx::{Contexted, conflict};
-use camp_prim::{Key, stay};
+use camp_prim::{Key, commutes_unchanged};
 use camp_share::{Share, Shared};
 use std::alloc::{AllocError, Global};
 use std::marker::Model;
@@ -22,12 +24,14 @@ use std::marker::Model;
 pub(crate) struct Gaining {
     catch: Shared<Catch>,
     gained: Vec<Contexted>,
+    hashes: CatchHashes,
 }
 
 impl Model for Gaining {
     ghost use Rattle.std.specs.Coded.{codes};
     ghost use Rattle.camp_ctx.specs.declared.sets.CtxSet.{the_code as code_of_sets};
     ghost use Rattle.camp_catch.specs.Inside.InPlace.{with_gained};
+    ghost use Rattle.camp_catch.specs.Inside.Hashes.{HasHashes};
     ghost use Rattle.camp_catch.specs.declared.catches.Catch.{Catch};
 
     ghost Value = { Catch };
@@ -35,11 +39,50 @@ impl Model for Gaining {
     ghost coded = { Prim.hlevel (codes, code_of_sets) };
 
     ghost view = { λ gaining. with_gained gaining.gained.items gaining.catch };
+
+    ghost invariant = { λ gaining. HasHashes gaining.catch gaining.hashes };
+}
+
+/// A catch that is commuted past others, and its hashes.
+#[derive(Drop)]
+pub(crate) struct HashedCatch {
+    catch: Shared<Catch>,
+    hashes: CatchHashes,
+}
+
+impl Model for HashedCatch {
+    ghost use Rattle.std.specs.Coded.{codes};
+    ghost use Rattle.camp_ctx.specs.declared.sets.CtxSet.{the_code as code_of_sets};
+    ghost use Rattle.camp_catch.specs.Inside.Hashes.{HasHashes};
+    ghost use Rattle.camp_catch.specs.declared.catches.Catch.{Catch};
+
+    ghost Value = { Catch };
+
+    ghost coded = { Prim.hlevel (codes, code_of_sets) };
+
+    ghost view = { λ coming. coming.catch };
+
+    ghost invariant = { λ coming. HasHashes coming.catch coming.hashes };
+}
+
+impl HashedCatch {
+    pub(crate) fn new(catch: Shared<Catch>) -> HashedCatch
+        ensures { result ≡ catch }
+    {
+        let hashes = hashes_of(&catch);
+        HashedCatch { catch, hashes }
+    }
+
+    pub(crate) fn into_catch(self) -> Shared<Catch>
+        ensures { result ≡ self }
+    {
+        self.catch
+    }
 }
 
 /// The result of a quick check of how two catches merge that begin in the same state.
 #[derive(Drop)]
-pub(crate) enum Meeting {
+pub(crate) enum MergeCheck {
     /// Both stay unchanged.
     Aside,
     /// Each gains one conflict and does not change otherwise: the second catch gains the first value, and the first
@@ -54,9 +97,11 @@ impl Gaining {
     pub(crate) fn new(alloc: Global, catch: Shared<Catch>) -> Gaining
         ensures { result ≡ catch }
     {
+        let hashes = hashes_of(&catch);
         Gaining {
             catch,
             gained: Vec::new(alloc),
+            hashes,
         }
     }
 
@@ -68,7 +113,7 @@ impl Gaining {
     }
 
     /// Returns the catch with the conflicts that it has gained.
-    pub(crate) fn settled(&self) -> Result<Shared<Catch>, AllocError>
+    pub(crate) fn with_gains(&self) -> Result<Shared<Catch>, AllocError>
         ensures { IfOk result (λ catch. catch ≡ self.now) }
     {
         if self.gained.is_empty() {
@@ -81,64 +126,86 @@ impl Gaining {
 
     /// Returns the catch with the conflicts that it has gained, and consumes it; does not copy it if it has
     /// gained nothing.
-    fn into_settled(self) -> Result<Shared<Catch>, AllocError>
+    fn finish(self) -> Result<Shared<Catch>, AllocError>
         ensures { IfOk result (λ catch. catch ≡ self) }
     {
         if !self.gained.is_empty() {
-            return self.settled();
+            return self.with_gains();
         }
         Ok(self.catch)
     }
 
     /// Merges with a `k` that begins in the same state, in place. False if they do not merge.
-    pub(crate) fn meet(&mut self, k: &mut Gaining) -> Result<bool, AllocError>
+    pub(crate) fn merge_with(&mut self, k: &mut Gaining) -> Result<bool, AllocError>
         ensures exact { IfOk result (λ done. Changes MergesInPlace (self.old, k.old) done (self.new, k.new)) }
     {
-        match meeting_of(&self.catch, &k.catch)? {
-            Meeting::Aside => Ok(true),
-            Meeting::Conflict(first, second) => {
+        match check_merge(&self.catch, &k.catch)? {
+            MergeCheck::Aside => Ok(true),
+            MergeCheck::Conflict(first, second) => {
                 k.gained.push(first)?;
                 self.gained.push(second)?;
                 Ok(true)
             }
-            Meeting::Unknown => merge_settled(self, k),
+            MergeCheck::Unknown => merge_with_gains(self, k),
         }
     }
 
-    /// Commutes with the `k` after it, in place. False if they do not commute.
-    pub(crate) fn let_pass(&mut self, k: &mut Shared<Catch>) -> Result<bool, AllocError>
+    /// True if the name of its patch has another hash, so that its label differs.
+    pub(crate) fn has_other_name(&self, hash: u64) -> bool
+        ensures { IsTrue result → hash_of (catch_key self.now).name ≢ hash }
+    {
+        self.hashes.patch != hash
+    }
+
+    /// Commutes with the `k` after it, in place. False if they do not commute. If the hashes show that both are plain,
+    /// of different patches and of different files, neither is read.
+    pub(crate) fn commute_with(&mut self, k: &mut HashedCatch) -> Result<bool, AllocError>
+        ensures exact { IfOk result (λ done. Changes CatchesCommuteInPlace (self.old, k.old) done (self.new, k.new)) }
+    {
+        if hashes_differ(&self.hashes, &k.hashes) {
+            return Ok(true);
+        }
+        let done = self.commute_with_catch(&mut k.catch);
+        k.hashes = hashes_of(&k.catch);
+        done
+    }
+
+    /// Commutes with the `k` after it, in place, without hashes. False if they do not commute.
+    fn commute_with_catch(&mut self, k: &mut Shared<Catch>) -> Result<bool, AllocError>
         ensures exact { IfOk result (λ done. Changes CatchesCommuteInPlace (self.old, k.old) done (self.new, k.new)) }
     {
         let alloc = *self.gained.allocator();
-        match passing_of(&self.catch, k)? {
-            Passing::Aside => Ok(true),
-            Passing::Leaves(moved, gained) => {
+        match check_commute(&self.catch, k)? {
+            CommuteCheck::Aside => Ok(true),
+            CommuteCheck::Leaves(moved, gained) => {
                 let next = Shared::new(alloc, moved)?;
                 self.gained.push(gained)?;
                 *k = next;
                 Ok(true)
             }
-            Passing::Unknown => {
+            CommuteCheck::Unknown => {
                 if !self.gained.is_empty() {
-                    return pass_settled(self, k);
+                    return commute_with_gains(self, k);
                 }
-                commute_in_place(alloc, &mut self.catch, k)
+                let done = commute_in_place(alloc, &mut self.catch, k);
+                self.hashes = hashes_of(&self.catch);
+                done
             }
         }
     }
 
     /// Merges with a `j` that begins in the same state, and becomes what it is after `j`. What `j` becomes is not
     /// computed, since nobody reads it.
-    pub(crate) fn go_behind(&mut self, j: &Gaining) -> Result<bool, AllocError>
+    pub(crate) fn merge_self_with(&mut self, j: &Gaining) -> Result<bool, AllocError>
         ensures exact { IfOk result (λ done. Changes (MergesInto j.now) self.old done self.new) }
     {
-        match meeting_of(&j.catch, &self.catch)? {
-            Meeting::Aside => Ok(true),
-            Meeting::Conflict(first, _) => {
+        match check_merge(&j.catch, &self.catch)? {
+            MergeCheck::Aside => Ok(true),
+            MergeCheck::Conflict(first, _) => {
                 self.gained.push(first)?;
                 Ok(true)
             }
-            Meeting::Unknown => settle_behind(j, self),
+            MergeCheck::Unknown => merge_self_with_gains(j, self),
         }
     }
 }
@@ -155,7 +222,7 @@ pub(crate) fn all_gaining(alloc: Global, list: &[Shared<Catch>]) -> Result<Vec<G
 }
 
 /// Returns the catches with the conflicts that they have gained.
-pub(crate) fn all_settled(
+pub(crate) fn all_with_gains(
     alloc: Global,
     list: Vec<Gaining>,
 ) -> Result<Vec<Shared<Catch>>, AllocError>
@@ -163,18 +230,18 @@ pub(crate) fn all_settled(
 {
     let mut settled = Vec::with_capacity(alloc, list.len())?;
     for catch in list {
-        settled.push(catch.into_settled()?)?;
+        settled.push(catch.finish()?)?;
     }
     Ok(settled)
 }
 
 /// Merges two catches that begin in the same state; adds the gained conflicts to their sets first.
-fn merge_settled(j: &mut Gaining, k: &mut Gaining) -> Result<bool, AllocError>
+fn merge_with_gains(j: &mut Gaining, k: &mut Gaining) -> Result<bool, AllocError>
     ensures exact { IfOk result (λ done. Changes MergesInPlace (j.old, k.old) done (j.new, k.new)) }
 {
     let alloc = *j.gained.allocator();
-    let mut first = j.settled()?;
-    let mut second = k.settled()?;
+    let mut first = j.with_gains()?;
+    let mut second = k.with_gains()?;
     if !merge_one(alloc, &mut first, &mut second)? {
         return Ok(false);
     }
@@ -184,11 +251,11 @@ fn merge_settled(j: &mut Gaining, k: &mut Gaining) -> Result<bool, AllocError>
 }
 
 /// Commutes `j` and the `k` after it; adds the gained conflicts to the set of `j` first.
-fn pass_settled(j: &mut Gaining, k: &mut Shared<Catch>) -> Result<bool, AllocError>
+fn commute_with_gains(j: &mut Gaining, k: &mut Shared<Catch>) -> Result<bool, AllocError>
     ensures exact { IfOk result (λ done. Changes CatchesCommuteInPlace (j.old, k.old) done (j.new, k.new)) }
 {
     let alloc = *j.gained.allocator();
-    let mut settled = j.settled()?;
+    let mut settled = j.with_gains()?;
     if !commute_in_place(alloc, &mut settled, k)? {
         return Ok(false);
     }
@@ -198,13 +265,13 @@ fn pass_settled(j: &mut Gaining, k: &mut Shared<Catch>) -> Result<bool, AllocErr
 
 /// Merges `k` with a `j` that begins in the same state; `k` becomes what it is after `j`. Adds the gained conflicts to
 /// their sets first.
-fn settle_behind(j: &Gaining, k: &mut Gaining) -> Result<bool, AllocError>
+fn merge_self_with_gains(j: &Gaining, k: &mut Gaining) -> Result<bool, AllocError>
     ensures exact { IfOk result (λ done. Changes (MergesInto j.now) k.old done k.new) }
 {
     let alloc = *k.gained.allocator();
-    let first = j.settled()?;
-    let second = k.settled()?;
-    let Some(next) = merge_behind(alloc, &first, &second)? else {
+    let first = j.with_gains()?;
+    let second = k.with_gains()?;
+    let Some(next) = merge_after(alloc, &first, &second)? else {
         return Ok(false);
     };
     *k = Gaining::new(alloc, next);
@@ -212,34 +279,34 @@ fn settle_behind(j: &Gaining, k: &mut Gaining) -> Result<bool, AllocError>
 }
 
 /// Checks how two catches merge that begin in the same state, whatever conflicts they have gained.
-fn meeting_of(j: &Catch, k: &Catch) -> Result<Meeting, AllocError>
-    ensures { IfOk result (MeetAs j.now k.now) }
+fn check_merge(j: &Catch, k: &Catch) -> Result<MergeCheck, AllocError>
+    ensures { IfOk result (IsMergeCheck j.now k.now) }
 {
     match (j, k) {
-        (Catch::Conflictor(j), Catch::Conflictor(k)) => meeting_of_two(j, k),
-        (Catch::Plain(a), Catch::Plain(b)) if stay(a, b) => Ok(Meeting::Aside),
-        _ => Ok(Meeting::Unknown),
+        (Catch::Conflictor(j), Catch::Conflictor(k)) => check_conflictor_merge(j, k),
+        (Catch::Plain(a), Catch::Plain(b)) if commutes_unchanged(a, b) => Ok(MergeCheck::Aside),
+        _ => Ok(MergeCheck::Unknown),
     }
 }
 
 /// Checks how two conflictors merge that begin in the same state. If neither has an effect, both stay unchanged, except
 /// that each gains the identity of the other if they conflict.
-fn meeting_of_two(j: &Conflictor, k: &Conflictor) -> Result<Meeting, AllocError>
-    ensures { IfOk result (MeetAs (AnyCatch.Conflictor j.now) (AnyCatch.Conflictor k.now)) }
+fn check_conflictor_merge(j: &Conflictor, k: &Conflictor) -> Result<MergeCheck, AllocError>
+    ensures { IfOk result (IsMergeCheck (AnyCatch.Conflictor j.now) (AnyCatch.Conflictor k.now)) }
 {
     if !has_no_effect(j) {
-        return Ok(Meeting::Unknown);
+        return Ok(MergeCheck::Unknown);
     }
     if !has_no_effect(k) {
-        return Ok(Meeting::Unknown);
+        return Ok(MergeCheck::Unknown);
     }
     let in_conflict = conflict(&j.identity, &k.identity)?;
     if !in_conflict {
-        return Ok(Meeting::Aside);
+        return Ok(MergeCheck::Aside);
     }
     let first = j.identity.try_clone()?;
     let second = k.identity.try_clone()?;
-    Ok(Meeting::Conflict(first, second))
+    Ok(MergeCheck::Conflict(first, second))
 }
 
 /// Returns a catch with further conflicts; a plain one is unchanged.

@@ -33,7 +33,7 @@ SetsPlace camp_path lines old (Err BadPath) new = AtNoPath camp_path lines
 SetsPlace camp_path lines old (Err TooManyLines) new = ⊥
 SetsPlace camp_path lines old (Err Memory) new = Unit {0}
 
--- in the new tree there is no file at this path, which may be no valid one; all other paths are unchanged
+-- the new tree has no file at this path, which need not be valid; all other paths are unchanged
 abbrev pub ClearsPlace : List ℕ → Files → Files → Type 0
 ClearsPlace camp_path old new = HasPathsOnly old → SetsFile camp_path None old new × HasPathsOnly new
 

@@ -13,7 +13,7 @@ use Rattle.camp_ctx.specs.Conflicts.{has_label}
 abbrev pub NoCleanMerge : List Named → List Named → Type 0
 NoCleanMerge s t = (t' s' : List Named) → ¬ (CleanMerge s t t' s')
 
--- as they are, two lists merge cleanly exactly if their normal orders do
+-- two lists, in the order that they have, merge cleanly exactly if their normal orders do
 pub record MergesAsOrdered (s t : List Named) : Type 0 where
   pub forth : (s1 t1 t' s' : List Named) → Norm s s1 → Norm t t1 → CleanMerge s1 t1 t' s'
       → (v' : List Named) × (u' : List Named) × CleanMerge s t v' u'
@@ -26,16 +26,16 @@ abbrev pub LacksLabels : List Named → List Named → Type 0
 LacksLabels s t = AllByRecursion (λ p. has_label t (label_of p) ≡ false) s
 
 -- two primitives change different files and have different absolute labels
-pub record Elsewhere (p q : Named) : Type 0 where
+pub record ChangeDifferentFiles (p q : Named) : Type 0 where
   pub paths : path_of p.prim ≢ path_of q.prim
   pub keys : ¬ (SameKey p q)
   pub first : InRange p.prim
   pub second : InRange q.prim
 
 -- a primitive is independent of every element of a list
-abbrev pub IsElsewhere : List Named → Named → Type 0
-IsElsewhere t p = AllByRecursion (Elsewhere p) t
+abbrev pub ChangesOtherFiles : List Named → Named → Type 0
+ChangesOtherFiles t p = AllByRecursion (ChangeDifferentFiles p) t
 
 -- no element of one list changes a file of the other
-abbrev pub AreElsewhere : List Named → List Named → Type 0
-AreElsewhere s t = AllByRecursion (IsElsewhere t) s
+abbrev pub ChangeNoCommonFile : List Named → List Named → Type 0
+ChangeNoCommonFile s t = AllByRecursion (ChangesOtherFiles t) s

@@ -7,8 +7,8 @@ use Rattle.camp_seq.specs.Room.{HasRoom}
 use Rattle.camp_ctx.specs.Contexts.{ContextedPatch}
 
 -- c:p, made from the context and the patch
-abbrev pub behind : List Named → Named → ContextedPatch
-behind c p = record { context = c; patch = p }
+abbrev pub in_context : List Named → Named → ContextedPatch
+in_context c p = record { context = c; patch = p }
 
 -- a has passed the context c and then p: if a^, c and p have headroom, c is its own normal order
 abbrev pub KeepsOrder : Named → List Named → Named → Type 0

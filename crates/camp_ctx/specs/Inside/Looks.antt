@@ -9,6 +9,6 @@ abbrev pub seen : Inside → ContextedPatch
 seen x = record { context = x.parts.context; patch = x.parts.patch }
 
 -- the results of the quick checks are true: the context is its own normal order, and so is the whole
-pub record IsLookedAt (x : Inside) : Type 0 where
+pub record ChecksAreTrue (x : Inside) : Type 0 where
   pub context : IsTrue x.parts.context_is_ordered → Norm x.parts.context x.parts.context
   pub all : IsTrue x.parts.whole_is_ordered → Norm (whole (seen x)) (whole (seen x))

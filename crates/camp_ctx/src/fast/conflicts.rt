@@ -5,7 +5,7 @@ ghost use Rattle.camp_prim.specs.Labels.{label_of};
 ghost use Rattle.camp_prim.specs.declared.named.Named.{Named as AnyNamed};
 ghost use Rattle.camp_seq.specs.Merging.{CleanMerge};
 ghost use Rattle.camp_seq.specs.NormalOrder.{Norm};
-ghost use Rattle.camp_ctx.specs.Conflicts.{has_label, Conflict, MergesBehindCommon};
+ghost use Rattle.camp_ctx.specs.Conflicts.{has_label, Conflict, MergesCleanlyAfterCommon};
 ghost use Rattle.camp_ctx.specs.Contexts.{whole};
 ghost use Rattle.camp_ctx.specs.Inside.Apart.{LacksLabels, MergesAsOrdered, NoCleanMerge};
 
@@ -16,17 +16,17 @@ use camp_seq::{Seq, can_commute, clean_merge, has_room_to_merge, is_own_order, s
 use std::alloc::AllocError;
 use std::slice;
 
-/// True only if two contexted patches conflict, since they can be merged as they are and their first primitives do not
-/// merge. False decides nothing.
-pub(crate) fn clash(x: &Contexted, y: &Contexted) -> Result<bool, AllocError>
+/// True only if two contexted patches conflict because they need not be put in normal order and their first primitives
+/// do not merge. False decides nothing.
+pub(crate) fn conflict_by_first(x: &Contexted, y: &Contexted) -> Result<bool, AllocError>
     ensures { IfOk result (λ yes. IsTrue yes → Conflict x.now y.now) }
 {
     let first = slice::from_ref(first_of(x));
     let second = slice::from_ref(first_of(y));
-    if !stop_each_other(first, second)? {
+    if !firsts_do_not_merge(first, second)? {
         return Ok(false);
     }
-    Ok(merge_as_they_stand(x, y))
+    Ok(can_merge_unordered(x, y))
 }
 
 /// True if two contexted patches conflict; `first` and `second` are their contexts followed by their patches. `None` if
@@ -41,7 +41,7 @@ pub(crate) fn conflict_in_any_order(
     requires second { second.now ≡ whole y.now }
     ensures { IfOk result (λ told. IfSome told (λ found. IsTrue found ↔ Conflict x.now y.now)) }
 {
-    if !merge_as_they_stand(x, y) {
+    if !can_merge_unordered(x, y) {
         return Ok(None);
     }
     match clean_merge(first, second)? {
@@ -52,7 +52,7 @@ pub(crate) fn conflict_in_any_order(
 
 /// True only if two contexted patches can be merged as they are, without ordering, to decide whether they conflict:
 /// they have no common label, and each is its own normal order or both have headroom. False decides nothing.
-fn merge_as_they_stand(x: &Contexted, y: &Contexted) -> bool
+fn can_merge_unordered(x: &Contexted, y: &Contexted) -> bool
     ensures labels { IsTrue result → LacksLabels (whole x.now) (whole y.now) }
     ensures orders { IsTrue result → MergesAsOrdered (whole x.now) (whole y.now) }
 {
@@ -122,8 +122,8 @@ fn names(y: &Contexted, p: &Named) -> bool
 }
 
 /// True only if a patch without a context and a list merge, and both stay unchanged. False decides nothing.
-pub(crate) fn stand_aside(x: &Contexted, t: &Seq) -> Result<bool, AllocError>
-    ensures { IfOk result (λ yes. IsTrue yes → MergesBehindCommon (whole x.now) t.now t.now (whole x.now)) }
+pub(crate) fn are_independent(x: &Contexted, t: &Seq) -> Result<bool, AllocError>
+    ensures { IfOk result (λ yes. IsTrue yes → MergesCleanlyAfterCommon (whole x.now) t.now t.now (whole x.now)) }
 {
     if !has_no_context(x) {
         return Ok(false);
@@ -149,14 +149,14 @@ pub(crate) fn are_apart(common: &[Label], s: &Seq, t: &Seq) -> bool
 pub(crate) fn merge_apart(s: &Seq, t: &Seq) -> Result<Option<(Seq, Seq)>, AllocError>
     ensures exact { IfOk result (FindsPair (CleanMerge s.now t.now)) }
 {
-    if stop_each_other(s.items(), t.items())? {
+    if firsts_do_not_merge(s.items(), t.items())? {
         return Ok(None);
     }
     clean_merge(s, t)
 }
 
 /// True if the first primitives of two lists do not merge.
-pub(crate) fn stop_each_other(s: &[Named], t: &[Named]) -> Result<bool, AllocError>
+pub(crate) fn firsts_do_not_merge(s: &[Named], t: &[Named]) -> Result<bool, AllocError>
     ensures { IfOk result (λ yes. IsTrue yes → NoCleanMerge s.now t.now) }
 {
     match (s.first(), t.first()) {

@@ -2,7 +2,7 @@
 ghost use Rattle.std.specs.Prelude.{IsTrue};
 ghost use Rattle.camp_ctx.specs.Conflicts.{Conflict};
 ghost use Rattle.camp_ctx.specs.Contexts.{whole};
-ghost use Rattle.camp_ctx.specs.Inside.Apart.{AreElsewhere, Elsewhere, IsElsewhere};
+ghost use Rattle.camp_ctx.specs.Inside.Apart.{ChangeNoCommonFile, ChangeDifferentFiles, ChangesOtherFiles};
 
 use crate::Contexted;
 use camp_prim::{Named, have_same_key};
@@ -20,7 +20,7 @@ pub(crate) fn are_elsewhere(x: &Contexted, y: &Contexted) -> bool
 
 /// True if each element of a list changes other files than a contexted patch.
 fn all_elsewhere(s: &[Named], y: &Contexted) -> bool
-    ensures { IsTrue result → AreElsewhere s.now (whole y.now) }
+    ensures { IsTrue result → ChangeNoCommonFile s.now (whole y.now) }
 {
     for at in (0..s.len()).rev() {
         if !is_elsewhere(&s[at], y) {
@@ -32,17 +32,17 @@ fn all_elsewhere(s: &[Named], y: &Contexted) -> bool
 
 /// True if a primitive changes another file than each primitive of a contexted patch.
 fn is_elsewhere(p: &Named, y: &Contexted) -> bool
-    ensures { IsTrue result → IsElsewhere (whole y.now) p.now }
+    ensures { IsTrue result → ChangesOtherFiles (whole y.now) p.now }
 {
     if !change_two_files(p, y.patch()) {
         return false;
     }
-    is_away_from(p, y.context().items())
+    changes_other_files(p, y.context().items())
 }
 
 /// True if a primitive changes another file than each element of a list.
-fn is_away_from(p: &Named, s: &[Named]) -> bool
-    ensures { IsTrue result → IsElsewhere s.now p.now }
+fn changes_other_files(p: &Named, s: &[Named]) -> bool
+    ensures { IsTrue result → ChangesOtherFiles s.now p.now }
 {
     for at in (0..s.len()).rev() {
         if !change_two_files(p, &s[at]) {
@@ -53,7 +53,7 @@ fn is_away_from(p: &Named, s: &[Named]) -> bool
 }
 
 fn change_two_files(p: &Named, q: &Named) -> bool
-    ensures { IsTrue result → Elsewhere p.now q.now }
+    ensures { IsTrue result → ChangeDifferentFiles p.now q.now }
 {
     p.prim.path() != q.prim.path() && !have_same_key(p, q)
 }

@@ -11,8 +11,8 @@ use camp_prim::Named;
 use camp_seq::{Seq, are_own_orders_of_chain, can_commute, is_chain};
 use std::alloc::AllocError;
 
-/// Adds the last elements of a list to a contexted patch by inserting them before the context: as many as form a chain
-/// with it. Returns the index of the first of them, and the result. The elements before that index are still to be
+/// Inserts those last elements of a list before the context that form a chain with it, which is what adding them gives.
+/// Returns the index of the first of them, and the new contexted patch. The elements before that index are still to be
 /// added.
 pub(crate) fn linked(r: &[Named], x: &Contexted) -> Result<(usize, Contexted), AllocError>
     ensures within { IfOk result (λ found. found.0 ≤ length r.now) }
@@ -25,12 +25,12 @@ pub(crate) fn linked(r: &[Named], x: &Contexted) -> Result<(usize, Contexted), A
     let context = join(x.allocator(), &r[start..], x.context().items())?;
     let patch = x.patch().try_clone()?;
     let told = are_own_orders_of_chain(context.items(), &patch);
-    let sum = Contexted::told(x.allocator(), context, patch, told)?;
+    let sum = Contexted::with_checks(x.allocator(), context, patch, told)?;
     Ok((start, sum))
 }
 
-/// True if adding a list makes it the context, unchanged: the patch has no context, and the list, which is not empty,
-/// forms a chain with the patch.
+/// True if the patch has no context, and the list is not empty and forms a chain with the patch: adding the list then
+/// makes it the context.
 pub(crate) fn becomes_context(r: &Seq, x: &Contexted) -> bool
     ensures some { IsTrue result → 0 < length r.now }
     ensures chain { IsTrue result → Chain r.now }
@@ -78,16 +78,16 @@ fn links(a: &Named, r: &[Named], s: &[Named], patch: &Named) -> bool
     ensures { IsTrue result ↔ Links a.now (r.now ++ s.now) patch.now }
 {
     if let Some(q) = r.first() {
-        return holds(a, q);
+        return is_linked(a, q);
     }
     if let Some(q) = s.first() {
-        return holds(a, q);
+        return is_linked(a, q);
     }
     !can_commute(a, patch)
 }
 
 /// True if two neighbours do not commute and their labels are not inverse.
-fn holds(a: &Named, q: &Named) -> bool
+fn is_linked(a: &Named, q: &Named) -> bool
     ensures { IsTrue result ↔ (¬ (CanCommute a.now q.now) × (label_of q.now ≢ label_of (inverse_of a.now))) }
 {
     q.label() != a.label().opposite() && !can_commute(a, q)

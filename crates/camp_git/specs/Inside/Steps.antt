@@ -17,7 +17,7 @@ abbrev pub StaysBeside : List (List ℕ × Unit {0}) → Files → Files → Typ
 StaysBeside paths old new =
     (path : List ℕ) → contains_key (map_of (slice_cmp nat_cmp) paths) path ≡ false → get new path ≡ get old path
 
--- the same, with a set that includes another one
+-- two trees are the same at all paths outside a set that includes another one
 abbrev pub StaysBesideNew : List (List ℕ × Unit {0}) → List (List ℕ × Unit {0}) → Files → Files → Type 0
 StaysBesideNew fewer paths old new =
     (path : List ℕ) → contains_key (map_of (slice_cmp nat_cmp) paths) path ≡ false

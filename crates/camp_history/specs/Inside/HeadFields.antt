@@ -17,12 +17,12 @@ position_slots seats per_seat every = if every == 0 then 0 else (seats * per_sea
 abbrev pub seat_slots : (seats every : ℕ) → ℕ
 seat_slots seats every = if every == 0 then 0 else seats
 
--- the slot with this number is for this position, if a snapshot is kept at each multiple of `every`
+-- the slot with this number is the one for this position; the position is a multiple of `every`
 abbrev pub IsSlotFor : (position every number : ℕ) → Type 0
 IsSlotFor position every number = (0 < every) × ((number + 1) * every ≡ position)
 
--- the invariant of a head: it tries a call at least once. It has a slot for each position at which a snapshot is kept
--- and one for each seat, all with its store, and as many slots for the parents of the snapshots.
+-- the invariant of a head: it tries a call at least once; it has a slot for each position at which a snapshot is kept
+-- and one for each seat, all for calls of its store, and as many slots for the parents of the snapshots
 pub record IsHead {State Call Reply : Type 0} (head : Inside State Call Reply) : Type 0 where
   pub tries : 0 < head.tries
   pub slots : All (λ slot. slot.tag ≡ ids head.calls) head.snapshots.items

@@ -24,7 +24,7 @@ pub record DecidesAt {State Call Reply : Type 0} (object : Sequential State Call
   pub replays : replay object history ≡ Some state
   pub decides : Decides object state call decided
 
--- what a head decides about a call, after the calls that a seat has seen: the next state if the call is accepted and
+-- the decision of a head on a call, after the calls that a seat has seen: the next state if the call is accepted and
 -- the seat has a cell left for it; else an answer
 abbrev pub HeadDecision : {State Call Reply : Type 0} → Sequential State Call Reply → HeadId State → SeatState State Call → Call
     → Result (Decided State Reply) Fault → Type 0
@@ -45,7 +45,7 @@ with_mark seat mark = record {
   bases = seat.bases;
 }
 
--- a seat sees more calls: its pass stays that of the same seat and row, and none of the new calls is its own
+-- a seat sees more calls, none of which is its own; it stays the same seat of the same row
 pub record SeesMore {State Call : Type 0} (old new : SeatState State Call) : Type 0 where
   pub number : new.known.number ≡ old.known.number
   pub row : new.known.row ≡ old.known.row
@@ -66,7 +66,7 @@ pub record Publishes {State Call : Type 0} (old : SeatState State Call) (call : 
   pub marks : new.marks ≡ old.marks ++ record { seat = old.known.number; call = call } ∷ []
   pub bases : new.bases ≡ old.bases
 
--- a compare-exchange was lost: the chain was longer than what the seat had seen, and the seat has now found it
+-- a compare-exchange was lost: the chain was longer than what the seat had seen; the seat has now found that chain
 pub record FindsMore {State Call : Type 0} (old new : SeatState State Call) : Type 0 where
   pub first : new.first ≡ old.first
   pub number : new.known.number ≡ old.known.number
@@ -75,7 +75,7 @@ pub record FindsMore {State Call : Type 0} (old new : SeatState State Call) : Ty
   pub bases : new.bases ≡ old.bases
   pub longer : IsProperPrefix (seen_entries new) new.known.ahead
 
--- a compare-exchange was lost at a history at which the call would be accepted
+-- a compare-exchange was lost although the call would have been accepted after the history that the seat had seen
 pub record LosesOne {State Call Reply : Type 0} (object : Sequential State Call Reply) (head : HeadId State)
     (old : SeatState State Call) (call : Call) (new : SeatState State Call) : Type 0 where
   pub has_room : length (own old.known.number (history_of old)) < head.row.per_seat

@@ -66,7 +66,7 @@ pub record RemovesIfBelow (camp_path prefix : List ℕ) (git : GitEntries) (old 
   pub stays : (path : List ℕ) → (get after path ≡ get git path) ⊎ ((get after path ≡ None) × (has_prefix prefix path ≡ true))
   pub steps : StepsTo after old new
 
--- a set has the paths of another one and, if a tree does not have the file at a path, that path
+-- a set has the paths of another set and, unless the other tree has the same file at `path`, also this path
 pub record AddsOther (path : List ℕ) (lines : Lines) (other : Files) (old new : PathSet) : Type 0 where
   pub all : HasAllOf old new
   pub own : HasPath new path ⊎ (get other path ≡ Some lines)

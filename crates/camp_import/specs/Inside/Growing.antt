@@ -65,7 +65,8 @@ pub record IsShort (hunk : DiffHunk) : Type 0 where
   pub old_short : hunk.old_end ≤ hunk.old_start + most_side_lines
   pub new_short : hunk.new_end ≤ hunk.new_start + most_side_lines
 
--- a piece is the start of a hunk: its sides are not too long for a script, and lines of the hunk are left
+-- a piece is the start of a hunk: neither side is too long for a script, and what the piece leaves is smaller than the
+-- hunk
 pub record IsFirstPiece (hunk piece : DiffHunk) : Type 0 where
   pub old_start : piece.old_start ≡ hunk.old_start
   pub new_start : piece.new_start ≡ hunk.new_start

@@ -12,7 +12,7 @@ pub record Drafted (State Call Reply : Type 0) : Type 0 where
   pub replies : List Reply
 
 module _ {State Call Reply : Type 0} (object : Sequential State Call Reply) (begun : State) (before : ℕ) where
-  -- the draft's state counts each accepted call
+  -- the draft's state counts one more call for each accepted call of the draft
   abbrev pub CountsEach : Drafted State Call Reply → Type 0
   CountsEach draft = object.count (unwrap_or draft.next begun) ≡ before + length draft.accepted
 
@@ -36,7 +36,7 @@ module _ {State Call Reply : Type 0} (object : Sequential State Call Reply) (beg
   abbrev pub DecidesOne : Drafted State Call Reply → ℕ → Call → Drafted State Call Reply → Type 0
   DecidesOne old seat call new = AcceptsOne old seat call new ⊎ AnswersOne old seat call new
 
-  -- the draft of some calls is right after any history that leads to the state before them
+  -- the draft of some calls is right for every history that leads to the state in which they are decided
   abbrev pub DraftsAll : ℕ → List Call → Drafted State Call Reply → Type 0
   DraftsAll seat calls draft =
       (history : List (ℕ × Call)) → replay object history ≡ Some begun → length history ≡ before

@@ -12,7 +12,7 @@ use Rattle.camp_member.specs.declared.wanting.Rest.{Rest}
 use Rattle.camp_member.specs.declared.wanting.Rest.TheVariants.{Nothing, Waits, Sends, UnderWay}
 
 module _ {State Call Reply : Type 0} (object : Sequential State Call Reply) where
-  -- the first request is answered, given what was read
+  -- the first request is answered from what was read
   pub record AnswersFirst (old new : Membership State Call Reply) : Type 0 where
     pub request : Request Call
     pub answer : Result Reply NoReply
@@ -39,7 +39,7 @@ module _ {State Call Reply : Type 0} (object : Sequential State Call Reply) wher
       × IsAccepted object member.reading.history request.call × (object.is_writing request.call ≡ true))
   IsRest member UnderWay = 0 < member.sent
 
-  -- the next step of a member: it answers its first request, or can do nothing without the log
+  -- the next step of a member: it answers its first request, or waits until the log gives it what it needs
   abbrev pub IsNext : Membership State Call Reply → Next Reply → Type 0
   IsNext member (Answers answer) =
       (member.sent ≡ 0)

@@ -2,18 +2,18 @@
 use Rattle.std.specs.Prelude.{[], ◌∷◌}
 use Rattle.camp_base.specs.Trees.{Lines}
 use Rattle.camp_prim.specs.Inside.Replacements.{Replacement}
-use Rattle.camp_prim.specs.declared.bodies.Held.{Held}
-use Rattle.camp_prim.specs.declared.bodies.Held.TheVariants as held
+use Rattle.camp_prim.specs.declared.bodies.BodyStorage.{BodyStorage}
+use Rattle.camp_prim.specs.declared.bodies.BodyStorage.TheVariants as held
 use Rattle.camp_prim.specs.declared.bodies.Side.{Side}
 use Rattle.camp_prim.specs.declared.bodies.Side.TheVariants as side
 
 -- the lines that a side represents
-abbrev pub held_lines : Side → Lines
-held_lines side.Empty = []
-held_lines (side.One line) = line ∷ []
-held_lines (side.Many lines) = lines.items
+abbrev pub side_lines : Side → Lines
+side_lines side.Empty = []
+side_lines (side.One line) = line ∷ []
+side_lines (side.Many lines) = lines.items
 
 -- the body that the fields represent
-abbrev pub replacement_of : Held → Replacement
+abbrev pub replacement_of : BodyStorage → Replacement
 replacement_of (held.Own own) = record { path = own.path; old = own.old.items; new = own.new.items }
-replacement_of (held.Shared parts) = record { path = parts.path; old = held_lines parts.old; new = held_lines parts.new }
+replacement_of (held.Shared parts) = record { path = parts.path; old = side_lines parts.old; new = side_lines parts.new }

@@ -14,12 +14,12 @@ moved (Some line) (Remove path) = Remove path
 moved (Some line) (Hunk hunk) = Hunk (at_line line hunk)
 
 -- p and then q, each moved to its new line, in the other order
-abbrev pub turned : Primitive → Primitive → Targets → Primitive × Primitive
-turned p q targets = (moved targets.second q, moved targets.first p)
+abbrev pub commuted_to_targets : Primitive → Primitive → Targets → Primitive × Primitive
+commuted_to_targets p q targets = (moved targets.second q, moved targets.first p)
 
 -- the new line of a hunk that commutes with one above it, if it is in range. The hunk was `gap` lines below the new
 -- lines of the upper hunk; it is then `gap` lines below the old ones.
-pub record ComesTo (upper takes leaves : ℕ) (lower : Edit) (line : ℕ) : Type 0 where
+pub record IsTargetLine (upper takes leaves : ℕ) (lower : Edit) (line : ℕ) : Type 0 where
   pub gap : ℕ
   pub stands : lower.line ≡ upper + leaves + gap
   pub passes : (0 < gap) ⊎ ((0 < takes) × (0 < leaves) × (0 < length lower.old) × (0 < length lower.new))
@@ -27,6 +27,6 @@ pub record ComesTo (upper takes leaves : ℕ) (lower : Edit) (line : ℕ) : Type
   pub fits : IsInRange (at_line line lower)
 
 -- p and then q commute to q' and then p', whatever their labels, and all four are in range
-pub record ChangeInRange (p q q' p' : Primitive) : Type 0 where
+pub record CommutesInRange (p q q' p' : Primitive) : Type 0 where
   pub change : PrimitivesCommute p q q' p'
   pub ranges : AreInRange p q q' p'

@@ -8,7 +8,7 @@ use Rattle.camp_questions.specs.Along.{HaveDiverged}
 use Rattle.camp_questions.specs.declared.faults.Unanswered.{Unanswered}
 use Rattle.camp_questions.specs.declared.faults.Unanswered.TheVariants.{Refused, Memory}
 
--- once the common patches are moved to the front of a branch, these catches come after them
+-- these are the catches of a branch that come after the common patches once those are moved to the front
 abbrev pub AreAfterCommon : List Catch → List Catch → List Catch → Type 0
 AreAfterCommon from to behind = (common : List Catch) × Arrange (common_names from to) from common behind
 

@@ -22,10 +22,10 @@ needs_index marks at place = not (place == at) && get_or marks place false
 abbrev pub EndAtOwnIndex : List Needed → Type 0
 EndAtOwnIndex all = (k : ℕ) (d : Needed) → k < length all → length (get_or all k d).needs.items ≤ k + 1
 
--- no patch before the index `settled` depends on one at these indexes: `settled` is 0; or no patch has a mark past its
--- own index, and `settled` is at most the least of these indexes
-abbrev pub AreSettled : Bool → List ℕ → ℕ → Type 0
-AreSettled in_place places settled =
+-- a reason why no patch before the index `settled` depends on a patch at these indexes: `settled` is 0, or no patch has
+-- a mark past its own index and `settled` is at most the least of these indexes
+abbrev pub NoneBeforeDepends : Bool → List ℕ → ℕ → Type 0
+NoneBeforeDepends in_place places settled =
     (settled ≡ 0) ⊎ ((in_place ≡ true) × AllByRecursion (λ place. settled ≤ place) places)
 
 -- a patch with its direct dependencies, in a branch whose patches have these names

@@ -6,11 +6,11 @@ use Rattle.camp_catch.specs.declared.catches.Catch.{Catch}
 use Rattle.camp_branch.specs.Branches.{AreDistinct, name_of, names_of}
 use Rattle.camp_questions.specs.declared.fast.patch_catches.PatchCatches.{PatchCatches}
 
--- catches are of the patch of this name
+-- all catches of the list belong to the patch of this name
 abbrev pub AreOfPatch : List ℕ → List Catch → Type 0
 AreOfPatch name list = AllByRecursion (λ k. name_of k ≡ name) list
 
--- none of the catches is of the patch of this name
+-- no catch of the list belongs to the patch of this name
 abbrev pub AreApart : List ℕ → List Catch → Type 0
 AreApart name list = AllByRecursion (λ k. bytes_eq (name_of k) name ≡ false) list
 
@@ -33,7 +33,7 @@ pub record ArePatchesOf (list : List Catch) (patches : List PatchCatches) : Type
   pub catches : catches_in_order patches ≡ list
   pub names : names_in_order patches ≡ names_of list
 
--- the number of catches at the start of a list that are of the patch of this name
+-- the number of catches at the start of a list that belong to the patch of this name
 abbrev pub until_next : List Catch → ℕ
 until_next [] = zero
 until_next (k ∷ list) = cond ((catch_key k).place == 1) zero (suc (until_next list))

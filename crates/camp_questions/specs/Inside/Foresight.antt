@@ -6,7 +6,7 @@ use Rattle.camp_repo.specs.Lawful.{IsLawfulState}
 use Rattle.camp_repo.specs.States.{Contents}
 use Rattle.camp_repo.specs.Steps.{step}
 
--- a call led from a lawful state to the next one
+-- a call was accepted at a lawful state, and led to the next one
 pub record LedTo (call : Call) (state next : Contents) : Type 0 where
   pub lawful : IsLawfulState state
   pub leads : step state call ≡ Next next

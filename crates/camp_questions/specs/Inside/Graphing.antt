@@ -18,7 +18,7 @@ marked [] marks = []
 marked (name ∷ names) [] = []
 marked (name ∷ names) (mark ∷ marks) = cond mark (name ∷ marked names marks) (marked names marks)
 
--- for each index, whether it is marked in one of two lists; the second is not the longer one
+-- for each index, whether it is marked in one of two lists, the second of which is not longer than the first
 abbrev pub marked_in_both : List Bool → List Bool → List Bool
 marked_in_both [] more = []
 marked_in_both (mark ∷ marks) [] = mark ∷ marks

@@ -1,8 +1,8 @@
--- Sets of names to which each name is added that stops them from being moved or taken out.
+-- Sets of names to which names are added until all can be moved to the front of a branch, or taken out of it.
 use Rattle.std.specs.Prelude.{◌≡◌, ℕ, List, ◌++◌}
 use Rattle.camp_catch.specs.declared.catches.Catch.{Catch}
 use Rattle.camp_branch.specs.Branches.{is_among}
-use Rattle.camp_questions.specs.Dependencies.{AreAdded, AreHeldIn, CanGo, CanMoveToFront, AreBlockedBy}
+use Rattle.camp_questions.specs.Dependencies.{AreAdded, DependsOnTakenOut, CanBeTakenOut, CanMoveToFront, AreBlockedBy}
 
 -- a set has the names and those that are added one by one until `Done` holds
 abbrev pub Grows :
@@ -16,5 +16,5 @@ abbrev pub GrowsToFront : List Catch → List (List ℕ) → List (List ℕ) →
 GrowsToFront branch = Grows (CanMoveToFront branch) (AreBlockedBy branch)
 
 -- a set has the names and those that are added until all can be taken out of a branch
-abbrev pub GrowsToGo : List Catch → List (List ℕ) → List (List ℕ) → Type 0
-GrowsToGo branch = Grows (CanGo branch) (AreHeldIn branch)
+abbrev pub GrowsToTakeOut : List Catch → List (List ℕ) → List (List ℕ) → Type 0
+GrowsToTakeOut branch = Grows (CanBeTakenOut branch) (DependsOnTakenOut branch)

@@ -5,7 +5,7 @@ use Rattle.camp_catch.specs.declared.catches.Catch.{Catch}
 use Rattle.camp_branch.specs.Branches.{is_among, names_of}
 use Rattle.camp_questions.specs.Dependencies.{HeldBy, Needs, in_order}
 use Rattle.camp_questions.specs.Graphs.{Drawn, IsGraph}
-use Rattle.camp_questions.specs.Pictures.{drawn_about, whole_picture}
+use Rattle.camp_questions.specs.Pictures.{graph_part, whole_picture}
 use Rattle.camp_questions.specs.declared.needed.Needed.{Needed}
 
 -- a patch, its dependencies and its dependents, in the order of the branch
@@ -16,7 +16,7 @@ pub record AreRelated (branch : List Catch) (name : List ℕ) (related : List (L
   pub holds : HeldBy branch (name ∷ []) held
   pub are : related ≡ in_order branch (needed ++ held)
 
--- a patch with its dependencies among some patches, as marks by their index among these
+-- a patch, with a mark for each of some patches that is one of its dependencies
 pub record IsMarkedAmong (branch : List Catch) (among : List (List ℕ)) (patch : Needed) : Type 0 where
   pub needed : List (List ℕ)
   pub grown : List (List ℕ)
@@ -33,4 +33,4 @@ pub record AreMarkedAmong (branch : List Catch) (among names : List (List ℕ)) 
 abbrev pub IsPartOfOne : List Catch → List ℕ → Drawn → Type 0
 IsPartOfOne branch name part =
     (graph : Drawn) × IsGraph branch graph
-    × ((pairs : List (List ℕ × List ℕ)) → whole_picture part pairs ≡ drawn_about (name ∷ []) (whole_picture graph pairs))
+    × ((pairs : List (List ℕ × List ℕ)) → whole_picture part pairs ≡ graph_part (name ∷ []) (whole_picture graph pairs))

@@ -11,17 +11,17 @@ use Rattle.camp_prim.specs.declared.named.Named.{Named}
 use Rattle.camp_prim.specs.declared.primitives.Primitive.{Primitive}
 use Rattle.camp_seq.specs.Running.{AppliesAll}
 use Rattle.camp_questions.specs.Annotations.{Known}
-use Rattle.camp_questions.specs.declared.walks.Walk.{Walk}
+use Rattle.camp_questions.specs.declared.walks.Annotation.{Annotation}
 
 -- the names stored under the absolute labels of hunks
 abbrev pub kept_in : BTreeMap Key (List (List ℕ)) → FinMap key_cmp (List (List ℕ))
 kept_in taken = from_entries taken.entries
 
 -- the state of an annotation
-abbrev pub known_in : Walk → Known
+abbrev pub known_in : Annotation → Known
 known_in walk = record { names = walk.names; taken = kept_in walk.taken }
 
--- the old lines of a hunk are lines of the file, which have names
+-- the old lines of a hunk lie within the lines of the file that have names
 abbrev pub LiesWithin : Edit → Known → Type 0
 LiesWithin hunk known = hunk.line - 1 + length hunk.old ≤ length known.names
 
@@ -34,11 +34,11 @@ lines_or_none (Some lines) = lines
 abbrev pub AreKnownIn : List ℕ → Files → Known → Type 0
 AreKnownIn path tree known = length known.names ≡ length (lines_or_none (get tree path))
 
--- a primitive applies to a tree, for each line of whose file the state has a name
-abbrev pub AppliesOn : List ℕ → Primitive → Known → Type 0
-AppliesOn path p known = (old : Files) × (new : Files) × Applies p old new × AreKnownIn path old known
+-- a primitive applies to a tree in which the state has a name for each line of the file
+abbrev pub AppliesWithNames : List ℕ → Primitive → Known → Type 0
+AppliesWithNames path p known = (old : Files) × (new : Files) × Applies p old new × AreKnownIn path old known
 
--- an effect applies to a tree, for each line of whose file the state has a name
-abbrev pub FollowsOn : List ℕ → List Named → Known → Type 0
-FollowsOn path effect known =
+-- an effect applies to a tree in which the state has a name for each line of the file
+abbrev pub EffectAppliesWithNames : List ℕ → List Named → Known → Type 0
+EffectAppliesWithNames path effect known =
     (old : Files) × (new : Files) × AppliesAll effect old new × AreKnownIn path old known

@@ -1,7 +1,7 @@
 //! The files that catches change, as small hashes of their paths.
 ghost use Rattle.std.specs.Prelude.{◌≡◌, ◌<◌, map, length, IfOk};
 ghost use Rattle.std.specs.List.{AllByRecursion, list_any};
-ghost use Rattle.camp_questions.specs.Inside.ChangedFiles.{AreFilesOf, AreMarkedToo, file_number, is_marked, number_of};
+ghost use Rattle.camp_questions.specs.Inside.ChangedFiles.{AreFilesOf, BecomeMarked, path_hash, is_marked, catch_hash};
 
 use crate::fast::patch_catches::PatchCatches;
 use camp_base::Path;
@@ -10,7 +10,7 @@ use camp_share::Shared;
 use std::alloc::{AllocError, Global};
 
 /// The number of possible hashes. Two files with the same hash count as one, which only costs a slower check.
-pub(crate) const NUMBERS: usize = 4093;
+pub(crate) const HASHES: usize = 4093;
 
 /// The files that a patch changes: for each of its catches the hash of the path.
 #[derive(Drop)]
@@ -34,33 +34,33 @@ pub(crate) fn files_of(
 }
 
 fn numbers_of(alloc: Global, catches: &[Shared<Catch>]) -> Result<Vec<usize>, AllocError>
-    ensures { IfOk result (λ numbers. numbers.items ≡ map number_of catches.now) }
+    ensures { IfOk result (λ numbers. numbers.items ≡ map catch_hash catches.now) }
 {
     let mut numbers = Vec::with_capacity(alloc, catches.len())?;
     for catch in catches {
-        numbers.push(number_of(catch))?;
+        numbers.push(catch_hash(catch))?;
     }
     Ok(numbers)
 }
 
 /// Returns the hash of the path that a plain catch changes.
-fn number_of(catch: &Catch) -> usize
-    ensures { result ≡ number_of catch.now }
+fn catch_hash(catch: &Catch) -> usize
+    ensures { result ≡ catch_hash catch.now }
 {
     match catch {
-        Catch::Plain(p) => file_number(p.prim.path()),
+        Catch::Plain(p) => path_hash(p.prim.path()),
         Catch::Conflictor(_) => 0,
     }
 }
 
 /// Returns the hash of a path.
-fn file_number(path: &Path) -> usize
-    ensures { result ≡ file_number path.now }
+fn path_hash(path: &Path) -> usize
+    ensures { result ≡ path_hash path.now }
 {
     let bytes = path.bytes();
     let mut number = 0;
     for byte in bytes {
-        number = (number * 31 + *byte as usize) % NUMBERS;
+        number = (number * 31 + *byte as usize) % HASHES;
     }
     number
 }
@@ -81,7 +81,7 @@ fn is_marked(marks: &[bool], number: usize) -> bool
 /// Marks these hashes too.
 pub(crate) fn mark_numbers(marks: &mut [bool], numbers: &[usize])
     requires { AllByRecursion (λ number. number < length marks.old) numbers.now }
-    ensures { AreMarkedToo marks.old numbers.now marks.new }
+    ensures { BecomeMarked marks.old numbers.now marks.new }
 {
     for number in numbers {
         marks[*number] = true;

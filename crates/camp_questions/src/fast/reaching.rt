@@ -1,4 +1,5 @@
-//! The dependencies of each patch, found by a walk back from it, which stops when all earlier patches are dependencies.
+//! The dependencies of each patch, found by a walk back from the patch, which stops as soon as all earlier patches are
+//! known to be dependencies.
 ghost use Rattle.std.specs.Prelude.{◌≡◌, ◌<◌, ◌≤◌, List, length, IfOk};
 ghost use Rattle.camp_catch.specs.declared.catches.Catch.{Catch as AnyCatch};
 ghost use Rattle.camp_questions.specs.Inside.ByPatch.{names_in_order};
@@ -6,8 +7,8 @@ ghost use Rattle.camp_questions.specs.Inside.ChangedFiles.{AreFilesOf};
 ghost use Rattle.camp_questions.specs.Inside.Graphing.{AreKnown, AreMarkedBelow, AreReached, IsInverted, NeedEach, marked_in_both};
 
 use crate::fast::changed_files::{PatchFiles, files_of};
-use crate::fast::going::{comes_before, go_too, going_first};
 use crate::fast::patch_catches::PatchCatches;
+use crate::fast::taken_out::{move_before, take_out, take_out_first};
 use crate::needed::Needed;
 use std::alloc::{AllocError, Global};
 
@@ -47,7 +48,7 @@ fn reached(
     let own = known.len();
     let mut marks = vec![in alloc; false; own + 1]?;
     marks[own] = true;
-    let mut going = going_first(alloc, &patches[own], &files[own])?;
+    let mut going = take_out_first(alloc, &patches[own], &files[own])?;
     let mut all_below = first_unmarked(&marks, 0);
     let mut place = own;
     while place > all_below {
@@ -55,13 +56,13 @@ fn reached(
         let patch = &patches[place];
         let changed = &files[place];
         if !marks[place] {
-            if comes_before(alloc, &mut going, patch, changed)? {
+            if move_before(alloc, &mut going, patch, changed)? {
                 continue;
             }
             mark_all(&mut marks, &known[place].needs);
             all_below = first_unmarked(&marks, all_below);
         }
-        go_too(&mut going, patch, changed)?;
+        take_out(&mut going, patch, changed)?;
     }
     Ok(marks)
 }

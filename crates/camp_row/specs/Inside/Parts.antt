@@ -1,4 +1,5 @@
--- What one seat knows of the row, as a `Part` for the invariant of the table. A view of the table is a list of parts.
+-- What one seat knows of the row, as a `Part`, which the invariant of the table speaks of. A view of the table is a
+-- list of parts.
 use Rattle.std.specs.Prelude.{◌≡◌, ℕ, List, [], slice_index_or, map, count_by, ◌==◌}
 use Rattle.std.specs.List.{range_with_len}
 use Rattle.atomic_table.specs.Seated.{TableId}
@@ -30,11 +31,11 @@ all_fresh seats per_seat = map (fresh seats per_seat) (range_with_len 0 seats)
 abbrev pub part_of : List Part → Part
 part_of parts = slice_index_or parts 0 (fresh 0 0 0)
 
--- how many elements of a view are of the seat with this number
+-- the number of parts of a view that belong to the seat with this number
 abbrev pub parts_of : ℕ → List Part → ℕ
 parts_of number parts = count_by (λ (part : Part). part.number == number) parts
 
--- in this table, the pass of a seat has this part of the row
+-- the state of a pass in this table, given the part of its seat
 abbrev pub known_of : TableId → Part → PassState
 known_of table part = record {
   row = record { table = table; seats = part.seats; per_seat = part.per_seat };
@@ -49,8 +50,8 @@ known_of table part = record {
 abbrev pub finds : List Entry → Part → Part
 finds chain part = record part { ahead = chain }
 
--- the invariant of a part: the seat has seen a prefix of the chain that it found; all its own entries in that chain,
--- `own_entries` of them, are in the prefix; and the chain fits the row
+-- the invariant of a part: the seat has seen a prefix of the chain that it found; all its own entries of that chain are
+-- in the prefix; and the chain fits the row
 pub record IsSoundPart (part : Part) : Type 0 where
   pub prefix : IsPrefix part.seen part.ahead
   pub own_seen : own_entries part.number part.ahead ≡ own_entries part.number part.seen

@@ -11,7 +11,8 @@ part pass = part_of pass.seat.me.0.parts
 abbrev pub known : Inside → PassState
 known pass = known_of pass.seat.table_id (part pass)
 
--- the invariant of a pass: it has one part and no slot, and its numbers are those of that part
+-- the invariant of a pass: its view of the table has one part and no slot, and its counters and words are those of that
+-- part
 pub record IsPass (pass : Inside) (part : Part) : Type 0 where
   pub alone : pass.seat.me.0.parts ≡ part ∷ []
   pub no_slot : pass.seat.me.1 ≡ []

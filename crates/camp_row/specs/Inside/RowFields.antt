@@ -6,7 +6,8 @@ use Rattle.camp_row.specs.declared.rows.Row.TheInside.{Inside}
 abbrev pub id_of : Inside → RowId
 id_of row = record { table = row.table.shared.table_id; seats = row.seats; per_seat = row.per_seat }
 
--- the invariant of a row: its table keeps the invariant of rows of these sizes, and has the words for it
+-- the invariant of a row: its table keeps the invariant of rows with its number of seats and cells, and has a word for
+-- the head and two for each cell
 pub record IsRow (row : Inside) : Type 0 where
   pub words : row.table.shared.table_id.words ≡ 1 + 2 * (row.per_seat * row.seats)
   pub slots : row.table.shared.table_id.slots ≡ 0

@@ -1,4 +1,4 @@
--- The invariant of the row, which holds after every step of its words and of what all seats know.
+-- The invariant of the row: what its words and the views of all seats have in common after every atomic step.
 use Rattle.std.specs.Prelude.{◌≡◌, ℕ, ◌+◌, ◌*◌, ◌<◌, ◌≤◌, List, ◌∷◌, ◌++◌, length, slice_index, sum_by, All}
 use mathlib.Core.Option.{some}
 use lib.ListN.{get_elem?}
@@ -25,8 +25,7 @@ IsLinked seats words chain =
     (before : List Entry) (entry : Entry) (after : List Entry) → before ++ entry ∷ after ≡ chain
     → HasCell words (cell_of seats before entry) (head_word seats before) entry.index
 
--- what holds of one seat: it has seen its own entries, `own_entries` of them; its next cell has its draft, and its
--- later cells are empty
+-- what holds of one seat: it has seen all its own entries; its next cell has its draft, and its later cells are empty
 pub record Knows (seats per_seat : ℕ) (words : List ℕ) (chain : List Entry) (part : Part) : Type 0 where
   pub sizes : (part.seats ≡ seats) × (part.per_seat ≡ per_seat) × (part.number < seats)
   pub seen : IsPrefix part.seen chain

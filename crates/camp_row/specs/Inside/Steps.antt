@@ -6,27 +6,29 @@ use Rattle.camp_row.specs.Chains.{IsPrefix, IsProperPrefix, cell_of, head_word}
 use Rattle.camp_row.specs.Inside.Parts.{Part, part_of, parts_of, finds, IsSoundPart}
 use Rattle.camp_row.specs.Inside.Rule.{parent_word, index_word}
 
--- a seat finds the chain: the head names its last cell; it has only grown, and the part of the seat keeps its invariant
+-- a seat finds the chain: the head names the chain's last cell; the chain has only grown, and the part of the seat
+-- keeps its invariant
 pub record SeatFindsChain (found : ℕ) (chain : List Entry) (part : Part) : Type 0 where
   pub named : found ≡ head_word part.seats chain
   pub grows : IsPrefix part.ahead chain
   pub sound : IsSoundPart (finds chain part)
 
--- a load of the head: each seat of the view finds the chain. No seat has two parts in the view
+-- a load of the head: each seat of the view, which has at most one part in it, finds the chain
 pub record LoadedHead (found : ℕ) (old new : List Part) : Type 0 where
   pub chain : List Entry
   pub one_each : (number : ℕ) → parts_of number old ≤ 1
   pub each : All (SeatFindsChain found chain) old
   pub is : new ≡ map (finds chain) old
 
--- a word of a cell was loaded that the seat has found and not seen: it has the value that the chain says
+-- a word was loaded from a cell whose entry the seat has found but not seen: it has the value that represents that
+-- entry of the chain
 abbrev pub Reads : ℕ → ℕ → Part → Type 0
 Reads word found part =
     (before : List Entry) (entry : Entry) (after : List Entry) → before ++ entry ∷ after ≡ part.ahead
     → (word ≡ parent_word (cell_of part.seats before entry) → found ≡ head_word part.seats before)
     × (word ≡ index_word (cell_of part.seats before entry) → found ≡ entry.index)
 
--- a load of a parent word or an index word after which the seat knows nothing more
+-- a load of a parent word or an index word that adds no entry to what the seat has seen
 abbrev pub Walked : ℕ → ℕ → List Part → List Part → Type 0
 Walked word found old new = (new ≡ old) × Reads word found (part_of old)
 
@@ -59,7 +61,7 @@ pub record WonPart (part : Part) (new : List Part) : Type 0 where
   pub whole : part.ahead ≡ part.seen
   pub is : new ≡ won_part part ∷ []
 
--- a compare-exchange that failed: the chain was longer than what the seat had seen, and the seat has now found it
+-- a compare-exchange that failed: the chain was longer than what the seat had seen; the seat has now found that chain
 pub record LostPart (found : ℕ) (part : Part) (new : List Part) : Type 0 where
   pub chain : List Entry
   pub longer : IsProperPrefix part.seen chain

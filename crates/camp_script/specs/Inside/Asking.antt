@@ -40,7 +40,7 @@ group_line_parsed (told.Change change) = WholeChange change
 group_line_parsed (told.Edit path line) = EditChange path line
 group_line_parsed told.Done = EndGroup
 
--- a group with `count` changes may have this one too, and the line of an edit is at least 1
+-- a group that has `count` changes may have one more, if this line is a change; and the line of an edit is at least 1
 abbrev pub HasRoomForChange : ℕ → ParsedGroupLine → Type 0
 HasRoomForChange count (told.Change change) = count < most_changes
 HasRoomForChange count (told.Edit path line) = (1 ≤ line) × (count < most_changes)

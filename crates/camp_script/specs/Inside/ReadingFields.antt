@@ -18,7 +18,7 @@ use Rattle.camp_script.specs.declared.readings.Reading.TheInside.{Inside}
 
 -- the edit that the fields represent, with the lines read so far
 abbrev pub edit_so_far : OpenEdit → Edit
-edit_so_far edit = record { path = edit.path; line = edit.line; old = edit.old.items; new = edit.new.items }
+edit_so_far edit = record { path = edit.path; line = edit.line; old = edit.old; new = edit.new }
 
 -- the open edit that the fields represent
 abbrev pub open_edit_of : OpenEdit → progress.OpenEdit
@@ -60,10 +60,10 @@ HasRoomFor changes (Some edit) = (1 ≤ edit.line) × (length changes < most_cha
 abbrev pub IsOpen : List Call → OpenRecord → Type 0
 IsOpen calls begun = MayGrow calls × (length begun.changes.items ≤ most_changes) × HasRoomFor begun.changes.items begun.open_edit
 
--- the same of the open record, if there is one
-abbrev pub IsAwaited : List Call → Option OpenRecord → Type 0
-IsAwaited calls None = Unit {0}
-IsAwaited calls (Some begun) = IsOpen calls begun
+-- `IsOpen` holds of the open record, if there is one
+abbrev pub OpenRecordFits : List Call → Option OpenRecord → Type 0
+OpenRecordFits calls None = Unit {0}
+OpenRecordFits calls (Some begun) = IsOpen calls begun
 
 -- each finished section is within the limit of writing calls, and one more section may follow
 pub record AreClosed (sections : List (List Call)) : Type 0 where
@@ -76,4 +76,4 @@ pub record SectionsAreCounted (reading : Inside) : Type 0 where
   pub closed : AreClosed (map (λ section. section.items) reading.closed.items)
   pub writes : reading.writes ≡ count_by is_writing reading.calls.items
   pub few : count_by is_writing reading.calls.items ≤ most_writing_calls
-  pub awaited : IsAwaited reading.calls.items reading.open_record
+  pub awaited : OpenRecordFits reading.calls.items reading.open_record

@@ -10,8 +10,8 @@ use Rattle.camp_base.specs.Results.{◌>>=◌}
 use Rattle.camp_script.specs.Inside.Progress.{Progress, OpenRecord, OpenEdit, with_record, with_edit, with_open_edit}
 use Rattle.camp_script.specs.Inside.Progress.{with_one_more, record_at, after_call, after_head, after_client}
 use Rattle.camp_script.specs.Inside.Progress.{after_record, after_change, finished}
-use Rattle.camp_script.specs.declared.cuts.Wanted.{Wanted}
-use Rattle.camp_script.specs.declared.cuts.Wanted.TheVariants as want
+use Rattle.camp_script.specs.declared.grouping.Expected.{Expected}
+use Rattle.camp_script.specs.declared.grouping.Expected.TheVariants as want
 use Rattle.camp_script.specs.declared.faults.LineFault.{LineFault}
 
 -- the progress after a line outside groups and bodies, given its meaning
@@ -23,7 +23,7 @@ after_command line progress (BeginEdit branch name path place) =
 after_command line progress (BeginGroup branch name) = after_head line progress (record_at line branch name true)
 after_command line progress BeginSection = after_client line progress
 
--- the same, given the meaning of the line or its fault
+-- `after_command`, given the meaning of the line or its fault
 abbrev pub after_parsed_command : ℕ → Progress → Result Command LineFault → Result Progress LineFault
 after_parsed_command line progress asked = asked >>= after_command line progress
 
@@ -34,7 +34,7 @@ after_group_line line progress begun (WholeChange change) = Ok (with_record prog
 after_group_line line progress begun (EditChange path place) = Ok (with_record progress (with_edit begun path place line))
 after_group_line line progress begun EndGroup = after_record line progress begun
 
--- the same, given the meaning of the line or its fault
+-- `after_group_line`, given the meaning of the line or its fault
 abbrev pub after_parsed_group_line : ℕ → Progress → OpenRecord → Result GroupLine LineFault → Result Progress LineFault
 after_parsed_group_line line progress begun said = said >>= after_group_line line progress begun
 
@@ -72,12 +72,12 @@ abbrev pub HasMeaningIn : Option OpenEdit → List ℕ → Type 0
 HasMeaningIn None bytes = is_skipped (words_of bytes) ≡ false
 HasMeaningIn (Some body) bytes = Unit {0}
 
--- the same, given the open record, if there is one
+-- a line counts, given the open record, if there is one
 abbrev pub HasMeaning : Option OpenRecord → List ℕ → Type 0
 HasMeaning None bytes = is_skipped (words_of bytes) ≡ false
 HasMeaning (Some begun) bytes = HasMeaningIn begun.open_edit bytes
 
 -- the kind of lines that follow a first line, given the record that it has opened
-abbrev pub wanted_in : Option OpenRecord → Wanted
+abbrev pub wanted_in : Option OpenRecord → Expected
 wanted_in None = want.Nothing
 wanted_in (Some begun) = if begun.grouped then want.Group else want.Body

@@ -11,7 +11,7 @@ use Rattle.camp_seq.specs.Passing.{Fronts, Passes}
 -- x0, the element before s0, was commuted in place to the right, past the first `at` elements of s0; x and s are what
 -- x0 and s0 have become. The elements from `at` on are unchanged. If x followed by them is put in normal order, the
 -- whole list is in normal order. If x0 commutes past all of s0, x commutes past these elements.
-pub record GoesIn (s0 : List Named) (x0 : Named) (at : ℕ) (s : List Named) (x : Named) : Type 0 where
+pub record CommutedRightInOrder (s0 : List Named) (x0 : Named) (at : ℕ) (s : List Named) (x : Named) : Type 0 where
   pub bound : at ≤ length s0
   pub long : length s ≡ length s0
   pub waiting : drop at s ≡ drop at s0
@@ -21,7 +21,7 @@ pub record GoesIn (s0 : List Named) (x0 : Named) (at : ℕ) (s : List Named) (x 
 
 -- x0, the element after s0, was commuted in place to the left, up to index `at`; x and s are what x0 and s0 have
 -- become. The whole list is in normal order.
-pub record ComesIn (s0 : List Named) (x0 : Named) (at : ℕ) (s : List Named) (x : Named) : Type 0 where
+pub record CommutedLeftInOrder (s0 : List Named) (x0 : Named) (at : ℕ) (s : List Named) (x : Named) : Type 0 where
   pub bound : at ≤ length s0
   pub ordered : Norm (s0 ++ x0 ∷ []) (take at s ++ x ∷ drop at s)
 
@@ -34,14 +34,14 @@ OrderedFrom s at false t = (rest : List Named) × Norm (drop at s) rest × (t �
 -- `last` is the element before p; `greatest` is the greatest label of the elements before p, and `more` that of the
 -- elements up to p. Either p has a label below `greatest`, or it does not commute with `last`, and `more` is its own
 -- label.
-abbrev pub StaysBehind : Label → Named → Named → Label → Type 0
-StaysBehind greatest last p more =
+abbrev pub StaysAfterFirst : Label → Named → Named → Label → Type 0
+StaysAfterFirst greatest last p more =
     ((label_cmp (label_of p) greatest ≡ Less) × (more ≡ greatest))
     ⊎ ((¬ (CanCommute last p)) × (more ≡ label_of p))
 
 -- no element of s with a label below `label` can be moved to the front of s and then past p, unless its label is below
 -- `greatest` too
-abbrev pub NoneBefore : Label → Label → Named → List Named → Type 0
-NoneBefore label greatest p s =
+abbrev pub NoneLessCanPass : Label → Label → Named → List Named → Type 0
+NoneLessCanPass label greatest p s =
     (other : Label) (found : Named) (u : List Named) → Fronts other s found u → CanCommute p found
     → label_cmp other greatest ≢ Less → label_cmp other label ≢ Less

@@ -7,30 +7,30 @@ use Rattle.camp_prim.specs.declared.named.Named.{Named}
 use Rattle.camp_seq.specs.Passing.{Passes, Fronts, Parts}
 
 -- s p ~ p' s': p is commuted to before every element of s
-abbrev pub Precedes : List Named → Named → Named → List Named → Type 0
-Precedes [] p p' s' = (p' ≡ p) × (s' ≡ [])
-Precedes (q ∷ s) p p' s' =
-    (coming : Named) × (q' : Named) × (t : List Named) × Precedes s p coming t × Commute q coming p' q' × (s' ≡ q' ∷ t)
+abbrev pub CommutesBeforeAll : List Named → Named → Named → List Named → Type 0
+CommutesBeforeAll [] p p' s' = (p' ≡ p) × (s' ≡ [])
+CommutesBeforeAll (q ∷ s) p p' s' =
+    (coming : Named) × (q' : Named) × (t : List Named) × CommutesBeforeAll s p coming t × Commute q coming p' q' × (s' ≡ q' ∷ t)
 
--- `Precedes` in place: the list and the primitive before, and what they become
-abbrev pub PrecedesInPlace : List Named × Named → List Named × Named → Type 0
-PrecedesInPlace old new = Precedes old.0 old.1 new.1 new.0
+-- `CommutesBeforeAll` in place: the list and the primitive before, and what they become
+abbrev pub CommutesBeforeAllInPlace : List Named × Named → List Named × Named → Type 0
+CommutesBeforeAllInPlace old new = CommutesBeforeAll old.0 old.1 new.1 new.0
 
 -- p, which comes after a and then s, is blocked: it cannot be commuted past any element of a
-abbrev pub IsHeld : List Named → List Named → Named → Type 0
-IsHeld [] s p = Unit {0}
-IsHeld (y ∷ a) s p = ((p' : Named) (t : List Named) → ¬ (Precedes (y ∷ (a ++ s)) p p' t)) × IsHeld a s p
+abbrev pub IsBlockedByAll : List Named → List Named → Named → Type 0
+IsBlockedByAll [] s p = Unit {0}
+IsBlockedByAll (y ∷ a) s p = ((p' : Named) (t : List Named) → ¬ (CommutesBeforeAll (y ∷ (a ++ s)) p p' t)) × IsBlockedByAll a s p
 
 -- p0, which came after s0, was commuted in place to the left and was blocked at index `at`; p is what it has become
-pub record ComesUpTo (s0 : List Named) (p0 : Named) (at : ℕ) (s : List Named) (p : Named) : Type 0 where
+pub record CommutedLeftTo (s0 : List Named) (p0 : Named) (at : ℕ) (s : List Named) (p : Named) : Type 0 where
   pub bound : at ≤ length s0
   pub long : length s ≡ length s0
   pub waiting : take at s ≡ take at s0
-  pub came : Precedes (drop at s0) p0 p (drop at s)
-  pub held : IsHeld (take at s0) (drop at s0) p0
+  pub came : CommutesBeforeAll (drop at s0) p0 p (drop at s)
+  pub held : IsBlockedByAll (take at s0) (drop at s0) p0
 
 -- p0, which came before s0, was commuted in place to the right and was blocked at index `at`; p is what it has become
-pub record GoesPast (s0 : List Named) (p0 : Named) (at : ℕ) (s : List Named) (p : Named) : Type 0 where
+pub record CommutedRightTo (s0 : List Named) (p0 : Named) (at : ℕ) (s : List Named) (p : Named) : Type 0 where
   pub bound : at ≤ length s0
   pub long : length s ≡ length s0
   pub waiting : drop at s ≡ drop at s0
@@ -42,18 +42,18 @@ abbrev pub PassesInPlace : Named × List Named → Named × List Named → Type 
 PassesInPlace old new = Passes old.0 old.1 new.1 new.0
 
 -- no element has this label
-abbrev pub Lacks : Label → List Named → Type 0
-Lacks label s = All (λ p. label_of p ≢ label) s
+abbrev pub LacksLabel : Label → List Named → Type 0
+LacksLabel label s = All (λ p. label_of p ≢ label) s
 
 -- `at` is the index of the first element with this label
-pub record FirstWith (label : Label) (s : List Named) (at : ℕ) : Type 0 where
+pub record FirstWithLabel (label : Label) (s : List Named) (at : ℕ) : Type 0 where
   pub before : List Named
   pub first : Named
   pub after : List Named
   pub is : s ≡ before ++ first ∷ after
   pub stands : length before ≡ at
   pub labelled : label_of first ≡ label
-  pub lacks : Lacks label before
+  pub lacks : LacksLabel label before
 
 -- the first element with this label is commuted to the front, in place
 abbrev pub FrontsInPlace : Label → List Named → List Named → Type 0

@@ -40,7 +40,7 @@ untried tried [] = 0
 untried tried (p ∷ s) = (if is_above tried (label_of p) then 1 else 0) + untried tried s
 
 -- t is s after moving to the front, of the elements that can be moved there, the one with the least label
-pub record Settles (s t : List Named) : Type 0 where
+pub record MovesLeastToFront (s t : List Named) : Type 0 where
   pub first : Named
   pub rest : List Named
   pub fronts : Fronts (label_of first) s first rest

@@ -11,8 +11,8 @@ use Rattle.camp_seq.specs.NormalOrder.{Norm}
 -- one step of a quick check: x stays after the elements before it. `last` is the last of these, `greatest` is their
 -- greatest label, and `more` is the greatest label with that of x. Either the label of x is at least `greatest`, or it
 -- is less and x does not commute with `last`.
-abbrev pub StaysLast : Label → Named → Named → Label → Type 0
-StaysLast greatest last x more =
+abbrev pub StaysInOrder : Label → Named → Named → Label → Type 0
+StaysInOrder greatest last x more =
     ((label_cmp (label_of x) greatest ≢ Less) × (more ≡ label_of x))
     ⊎ ((label_cmp (label_of x) greatest ≡ Less) × ¬ (CanCommute last x) × (more ≡ greatest))
 

@@ -8,7 +8,7 @@ use Rattle.camp_seq.specs.Shapes.{all_sides, greatest_line}
 
 -- all primitives of the list are in range; `greatest` is the greatest of `line` and their lines; `sides` is `more` plus
 -- the number of all their old and new lines; neither is above 2^30
-pub record GoesOnTo (s : List Named) (line more greatest sides : ℕ) : Type 0 where
+pub record ReachGrowsTo (s : List Named) (line more greatest sides : ℕ) : Type 0 where
   pub ranges : All (λ p. InRange p.prim) s
   pub top : greatest ≡ max line (greatest_line s)
   pub all : sides ≡ more + all_sides s

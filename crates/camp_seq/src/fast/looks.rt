@@ -3,13 +3,13 @@ ghost use Rattle.std.specs.Prelude.{◌<◌, List, [], ◌∷◌, ◌++◌, leng
 ghost use Rattle.camp_prim.specs.Labels.{label_of};
 ghost use Rattle.camp_prim.specs.declared.named.Named.{Named};
 ghost use Rattle.camp_seq.specs.Chains.{Chain};
-ghost use Rattle.camp_seq.specs.Inside.FirstInOrder.{StaysBehind};
-ghost use Rattle.camp_seq.specs.Inside.NextInOrder.{IsInOrder, StaysLast};
+ghost use Rattle.camp_seq.specs.Inside.FirstInOrder.{StaysAfterFirst};
+ghost use Rattle.camp_seq.specs.Inside.NextInOrder.{IsInOrder, StaysInOrder};
 ghost use Rattle.camp_seq.specs.NormalOrder.{Norm};
 ghost use Rattle.camp_seq.specs.Passing.{Passes};
 
 use crate::chains::can_commute;
-use camp_prim::{Named, has_less_label, stay};
+use camp_prim::{Named, commutes_unchanged, has_less_label};
 
 /// True only if the label of each element is not less than any label before it, or the element does not commute with
 /// the one before it; the list is then its own normal order. False decides nothing. Visits each element once; does not
@@ -69,7 +69,7 @@ fn greatest_in_order(items: &[Named]) -> Option<&Named>
 /// Checks one step of normal order: returns `x` if its label is not less than that of `greatest`; else `greatest` if
 /// `x` does not commute with `last`, the element before it; else `None`.
 fn greatest_with<'a>(greatest: &'a Named, last: &Named, x: &'a Named) -> Option<&'a Named>
-    ensures { IfSome result (λ more. StaysLast (label_of greatest.now) last.now x.now (label_of more.now)) }
+    ensures { IfSome result (λ more. StaysInOrder (label_of greatest.now) last.now x.now (label_of more.now)) }
 {
     if !has_less_label(x, greatest) {
         return Some(x);
@@ -97,7 +97,7 @@ pub(crate) fn stays_first(x: &Named, s: &[Named]) -> bool
         if !has_less_label(p, x) {
             return true;
         }
-        match greatest_behind(greatest, last, p) {
+        match greatest_after_first(greatest, last, p) {
             None => return false,
             Some(next) => greatest = next,
         }
@@ -108,8 +108,8 @@ pub(crate) fn stays_first(x: &Named, s: &[Named]) -> bool
 
 /// Checks one step of `stays_first`: returns `greatest` if the label of `p` is less; else `p` if it does not commute
 /// with `last`, the element before it; else `None`.
-fn greatest_behind<'a>(greatest: &'a Named, last: &Named, p: &'a Named) -> Option<&'a Named>
-    ensures { IfSome result (λ more. StaysBehind (label_of greatest.now) last.now p.now (label_of more.now)) }
+fn greatest_after_first<'a>(greatest: &'a Named, last: &Named, p: &'a Named) -> Option<&'a Named>
+    ensures { IfSome result (λ more. StaysAfterFirst (label_of greatest.now) last.now p.now (label_of more.now)) }
 {
     if has_less_label(p, greatest) {
         return Some(greatest);
@@ -126,7 +126,7 @@ pub fn stays_past(p: &Named, s: &[Named]) -> bool
     ensures sound { IsTrue result → Passes p.now s.now s.now p.now }
 {
     for at in (0..s.len()).rev() {
-        if !stay(p, &s[at]) {
+        if !commutes_unchanged(p, &s[at]) {
             return false;
         }
     }
@@ -134,7 +134,7 @@ pub fn stays_past(p: &Named, s: &[Named]) -> bool
 }
 
 /// True if the first element of a list blocks `p`.
-pub(crate) fn is_stopped(p: &Named, s: &[Named]) -> bool
+pub(crate) fn is_blocked_by_head(p: &Named, s: &[Named]) -> bool
     ensures { IsTrue result → (s' : List Named) (p' : Named) → ¬ (Passes p.now s.now s' p') }
 {
     match s.first() {

@@ -20,8 +20,8 @@ module _ {X Z : Type 0} where
   abbrev pub offset : List (Vec X Z) → ℕ → ℕ → ℕ
   offset parts index place = length (joined (take index parts)) + place
 
-  -- a position is at most the length of its chunk; position 0 of the chunk after the last one stands for the end of the
-  -- list
+  -- the index of a chunk and an offset in it are a position of the list: the offset is at most the length of the chunk;
+  -- offset 0 of the chunk after the last one stands for the end of the list
   abbrev pub IsPlace : List (Vec X Z) → ℕ → ℕ → Type 0
   IsPlace parts index place = (index ≤ length parts) × (offset parts index place ≤ length (joined (take (index + 1) parts)))
 

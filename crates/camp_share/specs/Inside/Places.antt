@@ -43,11 +43,12 @@ abbrev pub passes : {A : Type 0} → (A → Bool) → Option A → Bool
 passes test None = false
 passes test (Some x) = test x
 
--- there are entries, and the key of the last one is below a key
+-- there are entries, and the last one has a key below the given one
 abbrev pub ends_below : {K X : Type 0} → (K → K → Ordering) → List (K × X) → K → Bool
 ends_below order entries key = passes (λ entry. is_lt (order entry.0 key)) (slice_get entries (length entries - 1))
 
--- the item before index `low`, if there is one, has the first property, and the item at index `high` the second
+-- the item before index `low`, if there is one, has the first property; the item at index `high`, if there is one, has
+-- the second
 abbrev pub IsBorder : {A : Type 0} → (A → Type 0) → (A → Type 0) → List A → ℕ → ℕ → Type 0
 IsBorder {A} Passed Stops items low high =
     ((item : A) → 0 < low → item ≡ slice_index_or items (low - 1) item → Passed item)

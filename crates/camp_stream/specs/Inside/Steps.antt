@@ -20,13 +20,13 @@ IsOctalState Backslash = Unit {0}
 IsOctalState (OneDigit value) = value ≤ 3
 IsOctalState (TwoDigits value) = value ≤ 31
 
--- the same of the state after a step
+-- `IsOctalState` of the state after a step
 abbrev pub IsOctalStep : Step → Type 0
 IsOctalStep Closes = Unit {0}
 IsOctalStep (Continues state) = IsOctalState state
 IsOctalStep (Gives byte) = Unit {0}
 IsOctalStep Fails = Unit {0}
 
--- the path and the rest, with the bytes of the path that were read before
+-- the result of reading the rest of a path, with the bytes of the path that were read before put in front of it
 abbrev pub behind_path : List ℕ → Option (List ℕ × List ℕ) → Option (List ℕ × List ℕ)
 behind_path path found = option_map (λ read. (path ++ read.0, read.1)) found

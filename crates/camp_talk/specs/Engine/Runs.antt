@@ -89,8 +89,8 @@ UnlessCommitFails (Err (stop.Execute why)) fact = fact
 UnlessCommitFails (Err stop.Memory) fact = fact
 UnlessCommitFails (Err stop.Internal) fact = fact
 
--- after groups whose responses were written, the whole history is durable; so it is after a conversation, unless a
--- commit failed: then nothing was written after the groups before it
+-- the whole history is durable after groups whose responses were written, and after each conversation in which no
+-- commit failed
 pub record ResponsesAreDurable {B F Q A E H : Type 0} (backend : backends.Ghosts B Q A E) (framing : framings.Ghosts F Q A H) : Type 0 where
   pub groups : (limits : GroupLimits) (first : B) (from : F) (old : Option (List ℕ)) (last : B) (at : F) (new : Option (List ℕ))
       (run : HasRun backend framing limits first from old last at new) → IfSteps run.groups (backend.durable last ≡ backend.history last)

@@ -27,7 +27,7 @@ abbrev pub GoesOn : CommandLines → CommandLines → List (List ℕ) → Type 0
 GoesOn before after more =
     (first : List ℕ) (rest : List (List ℕ)) → HasRead before first rest → HasRead after first (rest ++ more)
 
--- what a reader shows of a line, given the number of bytes that it shows and of those before a line feed
+-- what a reader shows of a line, given how many bytes it shows, and how many of them come before a line feed
 abbrev pub seen_of : ℕ → ℕ → Seen
 seen_of shown before = if nat_lt before shown then seen.Line else (if shown == 0 then seen.End else seen.Part)
 

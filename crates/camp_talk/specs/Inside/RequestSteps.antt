@@ -1,5 +1,5 @@
 -- Executing a request, command by command.
-use Rattle.std.specs.Prelude.{◌≡◌, ℕ, Bool, List, length, Option, Some, Result, Ok, Err, Vec}
+use Rattle.std.specs.Prelude.{◌≡◌, ℕ, Bool, List, length, Option, Some, Result, Ok, Err}
 use Rattle.camp_talk.specs.Answers.{AnswersParsed, SessionState}
 use Rattle.camp_talk.specs.Parsing.{parsed_command}
 use Rattle.camp_talk.specs.Talks.{Exchange, Exchanges, HasAnswered, ReadsCommand, ReadsTooMuch}
@@ -7,16 +7,15 @@ use Rattle.camp_talk.specs.declared.faults.TalkFault.{TalkFault}
 use Rattle.camp_talk.specs.declared.faults.TalkFault.TheVariants.{Internal, Memory, Read, Write}
 use Rattle.camp_talk.specs.declared.requests.Halt.{Halt}
 use Rattle.camp_talk.specs.declared.requests.Halt.TheVariants.{After, Before}
+use Rattle.camp_talk.specs.declared.responses.Response.{Response}
+use Rattle.camp_talk.specs.declared.responses.Response.TheVariants.{Done, Failed, OutOfMemory}
 
--- where a request stops whose answer can't be stored: after a command that has one, before one that ran out of memory
-abbrev pub IsHaltOf : {Z E : Type 0} → Result (Vec ℕ Z) E → Halt → Type 0
-IsHaltOf (Ok text) (Before why) = ⊥
-IsHaltOf (Ok text) After = Unit {0}
-IsHaltOf (Err error) (Before Memory) = Unit {0}
-IsHaltOf (Err error) (Before (Read why)) = ⊥
-IsHaltOf (Err error) (Before (Write why)) = ⊥
-IsHaltOf (Err error) (Before Internal) = ⊥
-IsHaltOf (Err error) After = ⊥
+-- where a request stops if an answer can't be stored: after a command that was answered, but before one that ran out of
+-- memory
+abbrev pub IsHaltOf : Response → Halt → Type 0
+IsHaltOf (Done answer) halt = halt ≡ After
+IsHaltOf (Failed why answer) halt = halt ≡ After
+IsHaltOf OutOfMemory halt = halt ≡ Before Memory
 
 module _ (remaining rest : Option (List ℕ)) (old new : List ℕ) (before : SessionState) where
   -- why a command was not executed: memory ran out, the reader failed, or its lines have no numbers

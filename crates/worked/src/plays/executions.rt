@@ -12,7 +12,7 @@ pub(crate) struct Executions {
 }
 
 impl Executions {
-    /// Makes it for a command that was not executed yet.
+    /// Makes the record of a command that was not executed yet.
     pub(crate) fn nothing() -> Executions {
         Executions {
             count: 0,

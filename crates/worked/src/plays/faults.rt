@@ -42,7 +42,7 @@ impl<T: Drop> From<AllocFailed<T>> for PlayFault {
     }
 }
 
-/// Makes a buffer, or returns out of memory.
+/// Converts an error of writing into a buffer, which can only be out of memory.
 impl From<io::Error> for PlayFault {
     fn from(_error: io::Error) -> PlayFault {
         PlayFault::Memory

@@ -4,7 +4,7 @@ use crate::values::arguments::Value;
 use crate::values::calls::{Call, no_such_call};
 use crate::values::results::{Outcome, changed, render};
 use camp_base::Tree;
-use camp_ctx::{Contexted, CtxSet, merge_behind_common};
+use camp_ctx::{Contexted, CtxSet, merge_after_common};
 use camp_seq::{Seq, apply_all, clean_merge, front, invert_all, norm, past_all, split};
 
 /// Returns the result of a call on a list of primitives.
@@ -32,7 +32,7 @@ fn beside(table: &Table, call: Call, left: &Seq, right: &Seq) -> Outcome {
     match call {
         Call::PastAll => render(table, past_all(left, right)),
         Call::CleanMerge => render(table, clean_merge(left, right)),
-        _ => render(table, merge_behind_common(table.alloc(), left, right)),
+        _ => render(table, merge_after_common(table.alloc(), left, right)),
     }
 }
 

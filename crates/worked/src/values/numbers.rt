@@ -58,7 +58,7 @@ pub(crate) fn numbers_text(alloc: Global, numbers: &Numbers) -> Result<String, A
     Ok(text)
 }
 
-/// Makes consecutive numbers.
+/// A range of consecutive numbers, `from..to`, of a list.
 #[derive(Clone, Copy)]
 struct Row {
     from: u32,

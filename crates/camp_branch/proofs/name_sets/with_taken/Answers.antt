@@ -1,7 +1,11 @@
-use Rattle.camp_branch.proofs.Words.{◌∙◌, ap, arith, slice_cmp, nat_cmp, map_of, name_of}
-use Rattle.camp_branch.proofs.NameSets.{one_comes}
+use Rattle.std.proofs.lemmas.List.{take_rest}
+use Rattle.camp_branch.proofs.Words.{◌||◌, ◌<◌, ◌∙◌, ap, arith, length, map, slice_cmp, nat_cmp, map_of, has_name, is_among, name_of}
+use Rattle.camp_branch.proofs.NameSets.{entails, first_comes}
 use Rattle.camp_branch.proofs.name_sets.with_taken.Goals as goal
 
-pub loop-catch-preserved : goal.loop-catch-preserved
-loop-catch-preserved c =
-    one_comes (map_of (slice_cmp nat_cmp) c.loop-catch.all) (map_of (slice_cmp nat_cmp) c.in_ok-all-2.all) c.args.taken.now c.loop-catch.catch-index c.catch-item.result c.catch-item.result c.name.result.now _ c.loop-catch.invariant (omega arith) c.catch-item.is (c.name.ensures.exact ∙ ap name_of c.deref.ensures) c.in_ok-all-2.ensures.exact
+pub returns-in_ok-inserted-in-len1-up : goal.returns-in_ok-inserted-in-len1-up
+returns-in_ok-inserted-in-len1-up c =
+    let within : 0 < length c.args.taken.now = omega (arith, c.in-len1-up.len_at_least) in
+    entails c.with_more.result _ _
+    (λ all has name. first_comes (map_of (slice_cmp nat_cmp) c.args.names.now) (map_of (slice_cmp nat_cmp) c.in_ok-inserted-in-len1-up.field-0) (map_of (slice_cmp nat_cmp) all) c.args.taken.now c.first-item.result c.first-item.result c.name.result.now name within c.first-item.is (c.name.ensures.exact ∙ ap name_of c.deref.ensures) c.in_ok-inserted-in-len1-up.ensures.exact (has name ∙ ap (λ l. has_name c.in_ok-inserted-in-len1-up.field-0 name || is_among (map name_of l) name) (take_rest c.args.taken.now 1)))
+    c.with_more.ensures

@@ -15,8 +15,8 @@ returns-then-is_empty c =
     let none = nil_from_length (names_in c.args.common.now) (length-map (entries set) (λ e. e.0) ∙ sym (len-entries set) ∙ eqb-true _ 0 (sym c.is_empty.ensures.exact ∙ c.if-is_empty.true)) in record {
       exact = subst (λ names. GivesOrRunsOut (λ answer. MatchResult answer
           (λ taken. PullBy names c.args.from.now c.args.to.now (names_in c.args.wanted.now) (Ok (c.args.to.now ++ taken.items)))
-          (λ blocked. PullBy names c.args.from.now c.args.to.now (names_in c.args.wanted.now) (Err blocked))) c.pull_of_none_common.result)
-          (sym none) c.pull_of_none_common.ensures.exact;
+          (λ blocked. PullBy names c.args.from.now c.args.to.now (names_in c.args.wanted.now) (Err blocked))) c.pull_unrelated.result)
+          (sym none) c.pull_unrelated.ensures.exact;
     }
 
 pub returns-in_err-theirs : goal.returns-in_err-theirs

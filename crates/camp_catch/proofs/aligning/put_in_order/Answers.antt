@@ -6,12 +6,12 @@ use Rattle.camp_catch.proofs.aligning.put_in_order.Goals as goal
 pub returns-then-not-branch : goal.returns-then-not-branch
 returns-then-not-branch c =
     let next = stands_at c.args.order.now c.loop-at.at c.index-order-at.result c.index-order-at.result (omega arith) c.index-order-at.is in
-    record { exact = (rw next at c.loop-at.invariant.up).sticks _ (inl ((λ k others w. (rw (c.if-not-branch.true, take_rest c.loop-at.list c.loop-at.at) at c.in_ok-come_first.ensures.exact) (k ∷ others) (k, others, w, refl)), refl)) }
+    record { exact = (rw next at c.loop-at.invariant.up).sticks _ (inl ((λ k others w. (rw (c.if-not-branch.true, take_rest c.loop-at.list c.loop-at.at) at c.in_ok-move_to_front.ensures.exact) (k ∷ others) (k, others, w, refl)), refl)) }
 
 pub loop-at-preserved : goal.loop-at-preserved
 loop-at-preserved c =
     let next = stands_at c.args.order.now c.loop-at.at c.index-order-at.result c.index-order-at.result (omega arith) c.index-order-at.is in
-    let more = aligned_more c.loop-at.list c.come_first.new.list _ c.loop-at.at c.loop-at.invariant.within (rw (c.if-not-branch.false, take_rest c.loop-at.list c.loop-at.at) at c.in_ok-come_first.ensures.exact) (rest_written c.loop-at.list c.come_first.new.list c.loop-at.at) (rw next at c.loop-at.invariant.up) in
+    let more = aligned_more c.loop-at.list c.move_to_front.new.list _ c.loop-at.at c.loop-at.invariant.within (rw (c.if-not-branch.false, take_rest c.loop-at.list c.loop-at.at) at c.in_ok-move_to_front.ensures.exact) (rest_written c.loop-at.list c.move_to_front.new.list c.loop-at.at) (rw next at c.loop-at.invariant.up) in
     record { within = more.0; up = more.1 }
 
 pub returns : goal.returns

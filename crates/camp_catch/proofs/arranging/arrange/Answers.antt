@@ -13,14 +13,14 @@ returns-in-Some g c =
     let next = stands_at c.args.list.now c.loop-catch.catch-index c.catch-item.result c.in_ok-catch.catch (omega arith) (c.in_ok-catch.ensures ∙ c.catch-item.is) in
     let is = (rw c.deref.ensures at c.is_of.ensures).0 c.if-not-is_of.false in
     let patch = c.key-patch.ensures.exact ∙ ap catch_key c.deref-in-loop-catch.ensures in
-    record { exact = (rw next at c.loop-catch.invariant).sticks c.key-patch.result c.in-Some.on (inl (is, (rw (c.in-Some.is, c.deref_mut.ensures.value) at c.in_ok-on.ensures.exact), patch)) }
+    record { exact = (rw next at c.loop-catch.invariant).sticks c.key-patch.result c.in-Some.on (inl (is, (rw (c.in-Some.is, c.deref_mut.ensures.value, c.new-coming.ensures) at c.in_ok-on.ensures.exact), patch)) }
 
 pub loop-catch-preserved : goal.loop-catch-preserved
 loop-catch-preserved g c =
     let next = stands_at c.args.list.now c.loop-catch.catch-index c.catch-item.result c.in_ok-catch.catch (omega arith) (c.in_ok-catch.ensures ∙ c.catch-item.is) in
     let is = (rw c.deref.ensures at c.is_of.ensures).0 c.if-not-is_of.false in
-    let written = with_items_is c.loop-catch.rest c.come_before.new.list (c.come_before.auto.list ∙ ap length c.deref_mut.ensures.value ∙ sym c.loop-catch.rest.ok.0) in
-    rw (written, c.in_ok-push-2.ensures.items) (arranged_with_named c.come_before.new.coming (rw next at c.loop-catch.invariant) is (rw (c.in_default.is, c.deref_mut.ensures.value) at c.in_ok-on.ensures.exact))
+    let written = with_items_is c.loop-catch.rest c.commute_before_all.new.list (c.commute_before_all.auto.list ∙ ap length c.deref_mut.ensures.value ∙ sym c.loop-catch.rest.ok.0) in
+    rw (written, c.in_ok-push-2.ensures.items, c.into_catch.ensures) (arranged_with_named c.commute_before_all.new.coming (rw next at c.loop-catch.invariant) is (rw (c.in_default.is, c.deref_mut.ensures.value, c.new-coming.ensures) at c.in_ok-on.ensures.exact))
 
 pub returns : goal.returns
 returns g c =

@@ -1,4 +1,3 @@
-use Rattle.camp_catch.proofs.Words.{refl}
 use Rattle.camp_catch.proofs.conflictors.leaves_the_others.Goals as goal
 
 pub returns-in_default : goal.returns-in_default

@@ -1,5 +1,5 @@
 use Rattle.camp_ctx.proofs.Words.{◌∷◌, sym, subst, Norm, Passes, AddsToContext}
-use Rattle.camp_ctx.specs.Inside.InPlace.{behind}
+use Rattle.camp_ctx.specs.Inside.InPlace.{in_context}
 use Rattle.camp_ctx.proofs.AddSteps.{by_cancelling, by_passing, by_keeping}
 use Rattle.camp_ctx.proofs.PassedOrders.{keeps_order}
 use Rattle.camp_ctx.proofs.adding.add_to.Goals as goal
@@ -39,6 +39,6 @@ returns c =
     let order : Norm (c.args.a.now ∷ s) t =
     subst (λ z. Norm (z ∷ s) t) copy (subst (λ l. Norm l t) (λ k. (stays.1 k).0 ∷ (stays.1 k).1) c.in_ok-told.ensures.order) in
     record {
-      adds = subst (λ q. AddsToContext c.args.a.now (behind s p) (behind t q)) (sym (λ k. (stays.1 k).2)) (by_keeping c.args.a.now s p never t (λ y m. stays.0 y (m.0, subst (λ z. Passes z s y.1 m.0) (sym copy) m.1, m.2)) order);
+      adds = subst (λ q. AddsToContext c.args.a.now (in_context s p) (in_context t q)) (sym (λ k. (stays.1 k).2)) (by_keeping c.args.a.now s p never t (λ y m. stays.0 y (m.0, subst (λ z. Passes z s y.1 m.0) (sym copy) m.1, m.2)) order);
       own = c.in_ok-told.ensures.own;
     }

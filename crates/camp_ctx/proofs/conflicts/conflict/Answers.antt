@@ -5,6 +5,6 @@ use Rattle.camp_ctx.proofs.conflicts.conflict.Goals as goal
 pub returns-in-None : goal.returns-in-None
 returns-in-None c = record {
   exact =
-      let never = rw c.in-None.is at c.in_ok-merge_behind_common.ensures.exact in
+      let never = rw c.in-None.is at c.in_ok-merge_after_common.ensures.exact in
       (λ yes. conflicts_from _ _ _ _ c.in_ok-first.ensures c.in_ok-second.ensures never, λ conflict. refl);
 }

@@ -6,4 +6,4 @@ use Rattle.camp_questions.proofs.dependencies.held_by.Goals as goal
 pub returns : goal.returns
 returns c =
     let one = held_is_determined c.in_ok-branch.branch.now c.args.names.now in
-    record { exact = told_with c.args.state.now c.args.branch.now c.args.names.now c.in_ok-branch.ensures (λ b. Such (HeldBy b c.args.names.now)) c.held_there.result c.answer_or_memory.result c.answer_or_memory.ensures (IfOk-weaker c.held_there.result _ _ (λ names w. (names, refl, w)) c.held_there.ensures) one.0 (one.0, refl, one.1) }
+    record { exact = told_with c.args.state.now c.args.branch.now c.args.names.now c.in_ok-branch.ensures (λ b. Such (HeldBy b c.args.names.now)) c.dependents_in.result c.answer_or_memory.result c.answer_or_memory.ensures (IfOk-weaker c.dependents_in.result _ _ (λ names w. (names, refl, w)) c.dependents_in.ensures) one.0 (one.0, refl, one.1) }

@@ -2,8 +2,8 @@ use Rattle.camp_questions.proofs.Words.{IfOk-weaker, List, ◌≡◌, ◌∙◌,
 use Rattle.camp_questions.proofs.PatchesOfLists.{patches_there}
 use Rattle.camp_questions.proofs.needed.all_needed.Goals as goal
 
-pub taken_back-requires : goal.taken_back-requires
-taken_back-requires c =
+pub inverted_patches-requires : goal.inverted_patches-requires
+inverted_patches-requires c =
     patches_there c.args.branch.now c.deref.result.now (c.deref.ensures.value ∙ c.in_ok-catches.ensures.exact ∙ c.catches-2.ensures.value) c.catches-2.ensures.lawful
 
 pub all_reached-requires : goal.all_reached-requires
@@ -21,6 +21,6 @@ returns-in-Some c =
     let called : names_in_order given ≡ c.args.names.now = back.names ∙ sym c.requires in
     IfOk-weaker c.all_reached.result (λ all. (b : List Catch) → IsInverted b given → NeedEach b (names_in_order given) all.items) (λ all. NeedEach branch c.args.names.now all.items) (λ all each. subst (λ n. NeedEach branch n all.items) called (each branch back)) c.all_reached.ensures
 
-pub all_stuck-requires : goal.all_stuck-requires
-all_stuck-requires c =
+pub needed_by_blockers-requires : goal.needed_by_blockers-requires
+needed_by_blockers-requires c =
     c.requires ∙ ap names_of (sym (c.deref-in-None.ensures.value ∙ c.in_ok-catches.ensures.exact ∙ c.catches-2.ensures.value))

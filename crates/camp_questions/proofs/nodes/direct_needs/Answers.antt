@@ -1,4 +1,4 @@
-use Rattle.camp_questions.proofs.Words.{List, ◌≡◌, ◌-◌, ◌<◌, ◌≤◌, ◌∙◌, AllByRecursion, ap, arith, drop, filter, get_or, inl, length, map, not, refl, subst, sym, true, false, ℕ, get_or_default, AreSettled, name_at_index, needs_index, indexes_below, Needed}
+use Rattle.camp_questions.proofs.Words.{List, ◌≡◌, ◌-◌, ◌<◌, ◌≤◌, ◌∙◌, AllByRecursion, ap, arith, drop, filter, get_or, inl, length, map, not, refl, subst, sym, true, false, ℕ, get_or_default, NoneBeforeDepends, name_at_index, needs_index, indexes_below, Needed}
 use Rattle.camp_questions.proofs.PlacedNeeds.{all_past, ends_settled, first_is_least, goes_past, left_over, places_inside, starts_at, stays_past}
 use Rattle.camp_questions.proofs.nodes.direct_needs.Goals as goal
 
@@ -14,8 +14,8 @@ pub leave_out-requires : goal.leave_out-requires
 leave_out-requires c =
     subst (λ l. AllByRecursion (λ k. get_or l 0 0 ≤ k) l) (sym c.loop-settled.invariant.places) (first_is_least (left_over c.args.names.now c.args.patch.now (drop c.loop-settled.left c.args.all.now)) (length c.args.names.now))
 
-pub settled_before-settled-requires : goal.settled_before-settled-requires
-settled_before-settled-requires c =
+pub first_that_may_depend-settled-requires : goal.first_that_may_depend-settled-requires
+first_that_may_depend-settled-requires c =
     let names : List (List ℕ) = c.args.names.now in
     let p : Needed = c.args.patch.now in
     let i = c.loop-settled.left - 1 in
@@ -35,7 +35,7 @@ loop-settled-preserved-then-needs c =
     record {
       within = omega (arith, before);
       places = goes_past c.args.names.now c.args.all.now c.requires.named c.requires.distinct c.args.at p p c.requires.within c.requires.is c.loop-settled.places.items c.loop-settled.left i c.index-all-left.result c.index-all-left.result (omega arith) (omega (arith, before)) c.index-all-left.is c.loop-settled.invariant.places c.leave_out.new.places.items needed are;
-      settled = subst (λ l. AreSettled c.args.in_place l c.settled_before-settled.result) c.deref-then-needs-2.ensures.value c.settled_before-settled.ensures;
+      settled = subst (λ l. NoneBeforeDepends c.args.in_place l c.first_that_may_depend-settled.result) c.deref-then-needs-2.ensures.value c.first_that_may_depend-settled.ensures;
     }
 
 pub loop-settled-preserved : goal.loop-settled-preserved

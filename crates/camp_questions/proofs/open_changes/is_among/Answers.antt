@@ -1,4 +1,4 @@
-use Rattle.camp_questions.proofs.Words.{◌∙◌, subst, sym}
+use Rattle.camp_questions.proofs.Words.{◌∙◌}
 use Rattle.camp_questions.proofs.OpenChanges.{found_among}
 use Rattle.camp_questions.proofs.open_changes.is_among.Goals as goal
 

@@ -1,4 +1,4 @@
-use Rattle.camp_questions.proofs.Words.{Bool, List, ℕ, ◌∙◌, ap, filter, filter_same, not, rules}
+use Rattle.camp_questions.proofs.Words.{◌∙◌, ap, filter, filter_same, not, rules}
 use Rattle.camp_questions.specs.Foresight.{is_pair_among}
 use Rattle.camp_questions.proofs.open_changes.without.Goals as goal
 

@@ -8,4 +8,4 @@ loop-at-init c = none_added c.args.changes.now _ c.args.x.now c.args.x.now (omeg
 pub loop-at-preserved : goal.loop-at-preserved
 loop-at-preserved c =
     let follows : c.loop-at.at - 1 + 1 ≡ c.loop-at.at = omega arith in
-    one_more_added c.args.changes.now (c.loop-at.at - 1) c.loop-at.at c.index-changes-at.result c.args.x.now c.args.x.now c.args.x.now follows (omega arith) c.index-changes-at.is c.loop-at.invariant (c.stays_behind.ensures.sound c.if-not-stays_behind.false)
+    one_more_added c.args.changes.now (c.loop-at.at - 1) c.loop-at.at c.index-changes-at.result c.args.x.now c.args.x.now c.args.x.now follows (omega arith) c.index-changes-at.is c.loop-at.invariant (c.stays_unchanged.ensures.sound c.if-not-stays_unchanged.false)

@@ -9,7 +9,7 @@ loop-at-init c =
 pub loop-at-preserved : goal.loop-at-preserved
 loop-at-preserved c =
     let follows : c.loop-at.at - 1 + 1 ≡ c.loop-at.at = omega arith in
-    one_brought c.args.nodes.now (c.loop-at.at - 1) c.loop-at.at c.index-nodes-at.result c.index-nodes-at.result c.args.names.now c.loop-at.needed.items c.bring_needs.new.names.items follows (omega arith) c.index-nodes-at.is c.loop-at.invariant c.in_ok-bring_needs.ensures
+    one_brought c.args.nodes.now (c.loop-at.at - 1) c.loop-at.at c.index-nodes-at.result c.index-nodes-at.result c.args.names.now c.loop-at.needed.items c.add_dependencies.new.names.items follows (omega arith) c.index-nodes-at.is c.loop-at.invariant c.in_ok-add_dependencies.ensures
 
 pub returns : goal.returns
 returns c =

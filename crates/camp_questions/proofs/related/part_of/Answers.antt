@@ -1,4 +1,4 @@
-use Rattle.camp_questions.proofs.Words.{Drawn, List, [], ◌∷◌, ℕ, Bool, ◌≡◌, ◌&&◌, ◌∙◌, ap, filter, map, subst, sym, reverse, reverse-reverse, Catch, has_listed, map_of, nat_cmp, slice_cmp, ArePatches, IsPlain, Needed, has_name, hangs_on, is_among, name_of, among_once, needing, node_in}
+use Rattle.camp_questions.proofs.Words.{Drawn, List, [], ◌∷◌, ℕ, Bool, ◌≡◌, ◌&&◌, ◌∙◌, ap, filter, map, subst, sym, reverse, reverse-reverse, Catch, has_listed, map_of, nat_cmp, slice_cmp, ArePatches, IsPlain, Needed, has_name, is_one_or_neighbour, is_among, name_of, among_once, needing, node_in}
 use Rattle.camp_questions.proofs.GraphSteps.{drawn_in}
 use Rattle.camp_questions.proofs.PartsOfOne.{drawn_with, hangs_alike, part_nodes, related_distinct}
 use Rattle.camp_questions.proofs.PatchesBack.{reversed}
@@ -33,4 +33,4 @@ returns c name has are =
     let is = drawn_with branch pairs c.in_ok-found.ensures.exact in
     let drawn = c.in_ok-patches.ensures ∙ ap (λ l. map (node_in names (map (needing names) l)) (map (needing names) l)) c.deref.ensures.value ∙ part_nodes branch plain lawful name there names are c.in_ok-needed.needed.items marks others same in
     let between = c.in_ok-conflicts.ensures ∙ ap (filter (λ pair. others pair.0 && others pair.1)) c.new-pairs.ensures.exact in
-    (graph, is, λ unsettled. part_made (hangs_on graph.patches (name ∷ [])) others graph.patches c.in_ok-patches.patches.items pairs c.in_ok-conflicts.conflicts unsettled (λ n. same n ∙ sym (hangs_alike branch plain lawful name there names are graph is n)) drawn between)
+    (graph, is, λ unsettled. part_made (is_one_or_neighbour graph.patches (name ∷ [])) others graph.patches c.in_ok-patches.patches.items pairs c.in_ok-conflicts.conflicts unsettled (λ n. same n ∙ sym (hangs_alike branch plain lawful name there names are graph is n)) drawn between)

@@ -1,4 +1,4 @@
-use Rattle.camp_script.proofs.Common.{ap, sym, ◌∙◌, append-nil, arith, subst, take_all, AllByRecursion, CanStand, calls_of, section_text}
+use Rattle.camp_script.proofs.Common.{ap, sym, ◌∙◌, append-nil, arith, subst, take_all, AllByRecursion, CanBeInScript, calls_of, section_text}
 use Rattle.camp_script.proofs.WrittenLemmas.{one_more_call}
 use Rattle.camp_script.proofs.writing.kept_text.Goals as goal
 
@@ -13,4 +13,4 @@ returns-clause-text c =
 
 pub returns-clause-stand : goal.returns-clause-stand
 returns-clause-stand c =
-    subst (λ h. AllByRecursion CanStand (calls_of h)) (take_all c.loop-entry.entry-index c.args.history.now (omega arith)) c.loop-entry.invariant.1
+    subst (λ h. AllByRecursion CanBeInScript (calls_of h)) (take_all c.loop-entry.entry-index c.args.history.now (omega arith)) c.loop-entry.invariant.1

@@ -6,7 +6,7 @@ pub loop-at-preserved : goal.loop-at-preserved
 loop-at-preserved c =
     let s : List Named = c.loop-at.items in
     let at = c.loop-at.at in
-    order_more c.args.items.now s _ c.settle.new.items _ at (omega arith) (take_rest s at) c.settle.ensures (rest_written s c.settle.new.items at) c.loop-at.invariant
+    order_more c.args.items.now s _ c.move_least_to_front.new.items _ at (omega arith) (take_rest s at) c.move_least_to_front.ensures (rest_written s c.move_least_to_front.new.items at) c.loop-at.invariant
 
 pub returns : goal.returns
 returns c =

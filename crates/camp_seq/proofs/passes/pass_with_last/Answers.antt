@@ -14,7 +14,7 @@ returns-then-not-commute_in_place c =
     let stuck = c.if-not-commute_in_place.ensures.exact in
     let s = c.pass_or_stay.new.s in
     let p = c.pass_or_stay.new.p in
-    let back = gone_back c.args.p.now c.args.s.now s c.commute_in_place.new.p _ c.precede.new.s c.precede.new.p (subst (Passes c.args.p.now c.args.s.now s) (sym (λ k. (stuck.1 k).0)) passes) c.precede.ensures.exact in
+    let back = gone_back c.args.p.now c.args.s.now s c.commute_in_place.new.p _ c.commute_before_all.new.s c.commute_before_all.new.p (subst (Passes c.args.p.now c.args.s.now s) (sym (λ k. (stuck.1 k).0)) passes) c.commute_before_all.ensures.exact in
     record {
       exact = (
         λ any m. stuck.0 (any.0, any.2) (subst (λ x. Commute x c.args.last.now any.2 any.0) (one_pass c.args.p.now c.args.s.now any.1 s m.0 p m.1 passes).1 m.2),

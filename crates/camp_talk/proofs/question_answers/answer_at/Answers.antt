@@ -5,7 +5,7 @@ use Rattle.camp_questions.specs.Annotations.{AreAnnotated}
 use Rattle.camp_questions.specs.Differences.{IsMissing}
 use Rattle.camp_questions.specs.Files.{IsFile}
 use Rattle.camp_questions.specs.Marks.{AreMarked}
-use Rattle.camp_questions.specs.OpenConflicts.{AreOpen}
+use Rattle.camp_questions.specs.OpenConflicts.{AreUnresolved}
 use Rattle.camp_questions.specs.Pictures.{IsPictured}
 use Rattle.camp_questions.specs.Showing.{IsShown}
 use Rattle.camp_questions.specs.Sides.{IsSide}
@@ -37,7 +37,7 @@ returns-in-Along c =
 
 pub returns-in-Open : goal.returns-in-Open
 returns-in-Open c =
-    search (rules, answer_rendered_or_memory open_answer (AreOpen c.args.state.now c.in-Open.branch) c.open_pairs.result c.render_open.result c.open_pairs.ensures.exact c.render_open.ensures)
+    search (rules, answer_rendered_or_memory open_answer (AreUnresolved c.args.state.now c.in-Open.branch) c.unresolved_pairs.result c.render_open.result c.unresolved_pairs.ensures.exact c.render_open.ensures)
 
 pub returns-in-Side : goal.returns-in-Side
 returns-in-Side c =

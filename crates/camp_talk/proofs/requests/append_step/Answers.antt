@@ -1,4 +1,4 @@
-use Rattle.camp_talk.proofs.Words.{refl, true, subst, arith, rules, Bool, ReadsCommand, SessionState, answer_or_memory, ◌≡◌}
+use Rattle.camp_talk.proofs.Words.{refl, true, subst, arith, rules, Bool, ReadsCommand, SessionState, written, ◌≡◌}
 use Rattle.camp_talk.proofs.Firsts.{command_long}
 use Rattle.camp_talk.proofs.RequestLemmas.{halts, not_executed}
 use Rattle.camp_talk.proofs.StepLemmas.{answered}
@@ -36,7 +36,7 @@ returns-clause-appends g c =
     let executed = c.in-Ok.executed in
     let executes_next = c.in-Ok.ensures.executes_next in
     record {
-      exchange = record { command = executes_next.command; answer = answer_or_memory executed.response };
+      exchange = record { command = executes_next.command; answer = written executed.response };
       reads = executes_next.reads;
       answers = answered _ _ executes_next.command executed.response executes_next.says executes_next.counts;
       writes = c.in_ok-append_response.ensures;

@@ -1,6 +1,6 @@
 use Rattle.camp_talk.proofs.Words.{◌≡◌, ◌+◌, ℕ, List, length, true, Ok, first_of, is_silent, is_skipped, words_of, ap, subst, ◌∙◌, arith, rules, Gives, lines_of, SessionState, as_read, length-map, parsed_lines}
 use Rattle.camp_talk.proofs.Firsts.{command_left, command_read}
-use Rattle.camp_talk.proofs.StepLemmas.{reads_none, reads_too_much, said_so}
+use Rattle.camp_talk.proofs.StepLemmas.{reads_none, reads_too_much, responded}
 use Rattle.camp_talk.specs.declared.questions.ParsedCommand.TheVariants as parsed
 use Rattle.camp_talk.proofs.talks.execute_next.Goals as goal
 use Rattle.camp_talk.proofs.talks.execute_next.Given.{Over}
@@ -40,8 +40,7 @@ returns-clause-executes_next g c =
     record {
       command = read.command;
       reads = read.reads;
-      says = said_so before c.respond-response.new.book c.respond-response.new.diagnostic read.command (lines_of command.bytes.items) command.parsed gives read.lines
-          c.respond-response.result c.respond-response.ensures.text c.respond-response.ensures.updates c.respond-response.ensures.kept c.respond-response.ensures.same
-          c.respond-response.ensures.nothing silent;
+      says = responded before c.respond-response.new.book c.respond-response.new.diagnostic read.command (lines_of command.bytes.items) command.parsed gives read.lines
+          c.respond-response.result c.respond-response.ensures.responds c.respond-response.ensures.nothing silent;
       counts = counts;
     }

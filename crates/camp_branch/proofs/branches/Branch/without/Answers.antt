@@ -8,8 +8,8 @@ use Rattle.camp_branch.proofs.NewEnds.{end_arranged}
 use Rattle.camp_branch.proofs.branches.Branch.without.Goals as goal
 use Rattle.camp_branch.proofs.branches.Branch.without.Goals.{After-deref}
 
-pub behind-requires : goal.behind-requires
-behind-requires c =
+pub catches_from-requires : goal.catches_from-requires
+catches_from-requires c =
     let within = prefix_len-le-length (λ k. not (is_among (names_in c.args.names.now) (name_of k))) c.self.inside.catches in
     omega (c.front_before-start.ensures, within, arith)
 

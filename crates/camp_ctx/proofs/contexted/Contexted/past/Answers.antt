@@ -1,4 +1,4 @@
-use Rattle.camp_ctx.proofs.Words.{◌≡◌, ◌+◌, ◌-◌, drop, subst, arith, PassesBy, GivesNone, PassesByAll}
+use Rattle.camp_ctx.proofs.Words.{◌≡◌, ◌+◌, ◌-◌, drop, subst, arith, PassesBy, HasNoResult, PassesByAll}
 use Rattle.camp_ctx.proofs.AddResults.{one_passing_by}
 use Rattle.camp_ctx.proofs.AddSteps.{none_at_step}
 use Rattle.camp_ctx.proofs.contexted.Contexted.past.Goals as goal
@@ -10,4 +10,4 @@ returns-in-None c =
     let e : c.loop-at.at ≡ i + 1 = omega arith in
     let taken = subst (λ n. PassesByAll (drop n r) c.args.x.now c.loop-at.passed) e c.loop-at.invariant in
     let never = rw c.in-None.is at c.in_ok-past_one.ensures.exact in
-    record { exact = subst (λ s. GivesNone (PassesByAll s) c.args.x.now) c.items-items.ensures.exact (none_at_step PassesBy one_passing_by r i _ _ _ (omega arith) c.index-items-at.is taken never) }
+    record { exact = subst (λ s. HasNoResult (PassesByAll s) c.args.x.now) c.items-items.ensures.exact (none_at_step PassesBy one_passing_by r i _ _ _ (omega arith) c.index-items-at.is taken never) }

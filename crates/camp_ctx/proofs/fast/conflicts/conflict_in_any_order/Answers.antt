@@ -7,8 +7,8 @@ pub returns : goal.returns
 returns c =
     let x = c.args.x.now in
     let y = c.args.y.now in
-    let lacks = c.merge_as_they_stand.ensures.labels c.if-not-merge_as_they_stand.false in
-    let any = c.merge_as_they_stand.ensures.orders c.if-not-merge_as_they_stand.false in
+    let lacks = c.can_merge_unordered.ensures.labels c.if-not-can_merge_unordered.false in
+    let any = c.can_merge_unordered.ensures.orders c.if-not-can_merge_unordered.false in
     elim c.match-branch-2.branch [
       | in-None w ↦
           let never = rw (w.in-None.is, c.requires.first, c.requires.second) at c.in_ok-clean_merge.ensures.exact in

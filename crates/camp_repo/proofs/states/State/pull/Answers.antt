@@ -4,7 +4,7 @@ use Rattle.camp_repo.proofs.ByMembers.{full_alike, none_alike, none_there}
 use Rattle.camp_repo.proofs.DecideSteps.{next_lawful, pull_nothing, pull_settles, pull_too_large}
 use Rattle.camp_repo.proofs.Effects.{wanted_is_lacked}
 use Rattle.camp_repo.proofs.states.State.pull.Goals as goal
-use Rattle.camp_repo.proofs.states.State.pull.Goals.{After-pulled_behind}
+use Rattle.camp_repo.proofs.states.State.pull.Goals.{After-pulled_after_prefix}
 
 pub returns-then-is_empty-clause-exact : goal.returns-then-is_empty-clause-exact
 returns-then-is_empty-clause-exact c =
@@ -36,8 +36,8 @@ is_full_with-requires-clause-lacked c name among =
 pub agreed-requires : goal.agreed-requires
 agreed-requires c = c.agreed-known.ensures c.in-Some.theirs.now c.in-Some-find.ours.now c.in-Some.ensures.at c.in-Some-find.ensures.at
 
-pub pulled_behind-requires-clause-lacked : goal.pulled_behind-requires-clause-lacked
-pulled_behind-requires-clause-lacked c name among =
+pub pulled_after_prefix-requires-clause-lacked : goal.pulled_after_prefix-requires-clause-lacked
+pulled_after_prefix-requires-clause-lacked c name among =
     wanted_is_lacked c.in-Some-find.ours.now (listed c.in-Some.theirs.now c.args.names.now) name (sym (c.in_ok-wanted.ensures name) ∙ among)
 
 pub with_pulled-requires-clause-grown : goal.with_pulled-requires-clause-grown
@@ -48,7 +48,7 @@ with_pulled-requires-clause-grown c =
     (theirs, ours, own.0, c.in-Some.ensures.at, c.in-Some-find.ensures.at, c.in_ok-agreed.ensures.agree, own.1)
 
 -- the outcome of the pull decides the call
-settles : (c : After-pulled_behind) (outcome : Outcome) → PullGives c.in-Some.theirs.now c.in-Some-find.ours.now (names_in c.in_ok-wanted.wanted) outcome → settled c.args.self.now c.in-Some-find.place outcome ≡ step_pull c.args.self.now c.args.from.now c.args.to.now c.args.names.now
+settles : (c : After-pulled_after_prefix) (outcome : Outcome) → PullGives c.in-Some.theirs.now c.in-Some-find.ours.now (names_in c.in_ok-wanted.wanted) outcome → settled c.args.self.now c.in-Some-find.place outcome ≡ step_pull c.args.self.now c.args.from.now c.args.to.now c.args.names.now
 settles c =
     let two = sym c.eq.ensures ∙ c.if-eq.false in
     let all = sym c.first_lacked.ensures ∙ c.in_default-first_lacked.is in
@@ -58,12 +58,12 @@ settles c =
 
 pub with_pulled-requires-clause-lawful : goal.with_pulled-requires-clause-lawful
 with_pulled-requires-clause-lawful c =
-    next_lawful c.args.self.now (call.Pull c.args.from.now c.args.to.now c.args.names.now) _ c.in-Some-find.ensures.lawful (settles (goal.at.with_pulled-requires-clause-lawful c).After-pulled_behind (Ok c.in-Ok.pulled) c.in-Ok.ensures.exact)
+    next_lawful c.args.self.now (call.Pull c.args.from.now c.args.to.now c.args.names.now) _ c.in-Some-find.ensures.lawful (settles (goal.at.with_pulled-requires-clause-lawful c).After-pulled_after_prefix (Ok c.in-Ok.pulled) c.in-Ok.ensures.exact)
 
 pub returns-in-Ok-clause-exact : goal.returns-in-Ok-clause-exact
-returns-in-Ok-clause-exact c = ap Next c.in_ok-next-in-Ok.ensures ∙ settles (goal.at.returns-in-Ok-clause-exact c).After-pulled_behind (Ok c.in-Ok.pulled) c.in-Ok.ensures.exact
+returns-in-Ok-clause-exact c = ap Next c.in_ok-next-in-Ok.ensures ∙ settles (goal.at.returns-in-Ok-clause-exact c).After-pulled_after_prefix (Ok c.in-Ok.pulled) c.in-Ok.ensures.exact
 
 pub returns-in-Err-Blocked-clause-exact : goal.returns-in-Err-Blocked-clause-exact
 returns-in-Err-Blocked-clause-exact c =
     let gives = rw c.in-Err-Blocked.field-0-is at c.in-Err-Blocked.ensures.exact in
-    c.refused-in-Err-Blocked.ensures ∙ ap refused c.refusal_of.ensures ∙ settles (goal.at.returns-in-Err-Blocked-clause-exact c).After-pulled_behind (Err c.in-Err-Blocked.blocked) gives
+    c.refused-in-Err-Blocked.ensures ∙ ap refused c.refusal_of.ensures ∙ settles (goal.at.returns-in-Err-Blocked-clause-exact c).After-pulled_after_prefix (Err c.in-Err-Blocked.blocked) gives

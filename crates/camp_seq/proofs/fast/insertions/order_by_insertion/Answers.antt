@@ -5,8 +5,8 @@ use Rattle.camp_seq.proofs.fast.insertions.order_by_insertion.Goals as goal
 pub loop-last-init : goal.loop-last-init
 loop-last-init c = record { same = same; ordered = refl }
 
-pub place_last-requires : goal.place_last-requires
-place_last-requires c =
+pub insert_last-requires : goal.insert_last-requires
+insert_last-requires c =
     let s : List Named = c.loop-last.items in
     let n = c.loop-last.last in
     let part : List Named = take (n + 1) s in
@@ -20,8 +20,8 @@ pub loop-last-preserved : goal.loop-last-preserved
 loop-last-preserved c =
     let s : List Named = c.loop-last.items in
     let n = c.loop-last.last in
-    let long : length c.place_last.new.items ≡ n + 1 = c.place_last.auto.items ∙ length-take-le (n + 1) s (omega arith) in
-    let next = placed_more c.args.items.now s n c.requires c.loop-last.invariant.same c.place_last.new.items long c.place_last.ensures in
+    let long : length c.insert_last.new.items ≡ n + 1 = c.insert_last.auto.items ∙ length-take-le (n + 1) s (omega arith) in
+    let next = placed_more c.args.items.now s n c.requires c.loop-last.invariant.same c.insert_last.new.items long c.insert_last.ensures in
     record { same = next.0; ordered = next.1 }
 
 pub returns : goal.returns

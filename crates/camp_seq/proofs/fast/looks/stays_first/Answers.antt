@@ -15,7 +15,7 @@ returns-then-not-has_less_label c = λ yes.
 
 pub loop-at-preserved : goal.loop-at-preserved
 loop-at-preserved c =
-    look_on c.args.s.now c.requires c.loop-at.at (label_of c.args.x.now) (label_of c.loop-at.greatest.now) c.loop-at.last.now (Norm (c.args.x.now ∷ c.args.s.now) (c.args.x.now ∷ c.args.s.now)) c.loop-at.invariant c.index-s-at.result (omega arith) c.index-s-at.is (label_of c.in-Some-greatest_behind.next.now) (rw c.in-Some-greatest_behind.is at c.greatest_behind.ensures)
+    look_on c.args.s.now c.requires c.loop-at.at (label_of c.args.x.now) (label_of c.loop-at.greatest.now) c.loop-at.last.now (Norm (c.args.x.now ∷ c.args.s.now) (c.args.x.now ∷ c.args.s.now)) c.loop-at.invariant c.index-s-at.result (omega arith) c.index-s-at.is (label_of c.in-Some-greatest_after_first.next.now) (rw c.in-Some-greatest_after_first.is at c.greatest_after_first.ensures)
 
 pub returns : goal.returns
 returns c = λ yes.

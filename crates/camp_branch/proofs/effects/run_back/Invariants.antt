@@ -1,5 +1,0 @@
-use Rattle.camp_branch.proofs.Words.{drop, AppliesAll}
-use Rattle.camp_branch.proofs.effects.run_back.Given as goal
-
-abbrev pub invariant-loop-at : goal.invariant-loop-at
-invariant-loop-at l = AppliesAll (drop l.at l.effect) l.tree l.initial.tree

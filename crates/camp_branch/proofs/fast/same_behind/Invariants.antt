@@ -1,6 +1,0 @@
-use Rattle.camp_branch.proofs.Words.{drop}
-use Rattle.camp_branch.proofs.BeginAlike.{AlikeSoFar}
-use Rattle.camp_branch.proofs.fast.same_behind.Given as goal
-
-abbrev pub invariant-loop-catch : goal.invariant-loop-catch
-invariant-loop-catch l = AlikeSoFar (drop l.known l.from) (drop l.known l.to) l.catch-iterator l.others l.same

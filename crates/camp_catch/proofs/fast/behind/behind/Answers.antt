@@ -1,4 +1,0 @@
-use Rattle.camp_catch.proofs.fast.behind.behind.Goals as goal
-
-pub returns-in-None : goal.returns-in-None
-returns-in-None c = record { exact = λ k' (j', m). (rw c.in-None.is at c.in_ok-merge.ensures.exact) (k', j') m }

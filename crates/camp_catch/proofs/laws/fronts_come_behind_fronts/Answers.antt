@@ -1,5 +1,0 @@
-use Rattle.camp_catch.proofs.PlainArranging.{fronts_come_behind_fronts as the_law}
-use Rattle.camp_catch.proofs.laws.fronts_come_behind_fronts.Goals as goal
-
-pub returns : goal.returns
-returns c = record { law = the_law }

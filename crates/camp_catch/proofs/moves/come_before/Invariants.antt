@@ -1,8 +1,0 @@
-use Rattle.camp_catch.proofs.Words.{drop, take, ◌≡◌, ComesBefore}
-use Rattle.camp_catch.proofs.moves.come_before.Given as goal
-
-abbrev pub invariant-loop-at : goal.invariant-loop-at
-invariant-loop-at l = record {
-  came : ComesBefore (drop l.at l.initial.list) l.initial.coming l.coming (drop l.at l.list);
-  waiting : take l.at l.list ≡ take l.at l.initial.list;
-}

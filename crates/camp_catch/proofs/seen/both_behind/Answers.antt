@@ -1,4 +1,0 @@
-use Rattle.camp_catch.proofs.seen.both_behind.Goals as goal
-
-pub returns : goal.returns
-returns c = rw c.in_ok-back.ensures.exact at c.others_before.ensures

@@ -1,0 +1,4 @@
+pub mod CommitLemmas
+pub mod EachLemmas
+pub mod TreeLemmas
+pub mod WholeTreeLemmas

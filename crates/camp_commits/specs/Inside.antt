@@ -1,0 +1,3 @@
+-- Definitions that only private functions use.
+pub mod Changing
+pub mod Making

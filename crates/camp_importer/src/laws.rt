@@ -1,0 +1,8 @@
+//! The law of imports, as a function whose contract states it.
+ghost use Rattle.camp_importer.specs.Laws.{ImportedCommitsAreHeld};
+
+/// An imported commit was held at some moment: a branch then led to its tree, and had its patch and that of its first
+/// parent. This needs moments that are those of an earlier state of the book.
+pub fn imported_commits_are_held()
+    ensures law { ImportedCommitsAreHeld }
+{}

@@ -1,5 +1,0 @@
-use Rattle.camp_questions.proofs.BranchGrowths.{held_can_go as the_law}
-use Rattle.camp_questions.proofs.laws.held_can_go.Goals as goal
-
-pub returns : goal.returns
-returns c = record { law = the_law }

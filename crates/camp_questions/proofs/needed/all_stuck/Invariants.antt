@@ -1,6 +1,0 @@
-use Rattle.camp_questions.proofs.Words.{take}
-use Rattle.camp_questions.proofs.GraphSteps.{AreNeeded}
-use Rattle.camp_questions.proofs.needed.all_stuck.Given as goal
-
-abbrev pub invariant-loop-name : goal.invariant-loop-name
-invariant-loop-name l = AreNeeded l.catches l.names (take l.name-index l.names) l.all.items

@@ -1,5 +1,0 @@
-use Rattle.camp_questions.proofs.Words.{◌≡◌, filter, take, fold, union_of, touch}
-use Rattle.camp_questions.proofs.places.joined_with.Given as goal
-
-abbrev pub invariant-loop-place : goal.invariant-loop-place
-invariant-loop-place l = l.whole ≡ fold union_of l.range (filter (touch l.range) (take l.place-index l.places))

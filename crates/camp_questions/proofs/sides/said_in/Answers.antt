@@ -1,6 +1,0 @@
-use Rattle.camp_questions.proofs.Words.{ap, ◌∙◌, changes_in}
-use Rattle.camp_questions.proofs.sides.said_in.Goals as goal
-
-pub returns : goal.returns
-returns c =
-    (c.in_ok-side.side, c.in_ok-changes.ensures ∙ ap changes_in c.items.ensures.exact, c.in_ok-side.ensures)

@@ -1,6 +1,0 @@
-use Rattle.camp_seq.proofs.Words.{Precedes}
-use Rattle.camp_seq.proofs.ListSteps.{DoneFrom}
-use Rattle.camp_seq.proofs.passes.come_forward.Given as goal
-
-abbrev pub invariant-loop-at : goal.invariant-loop-at
-invariant-loop-at l = DoneFrom (λ t u. Precedes t l.initial.p l.p u) l.initial.s l.s l.at
