@@ -1,6 +1,7 @@
 """A repository in a file: the program over it, the file byte for byte, and the calls that the tests ask."""
 
 import hashlib
+import math
 import os
 
 from tests.harness import programs
@@ -40,12 +41,13 @@ def oks(last, first=1):
 
 
 def long_script(number):
-    """So many calls, on several branches: a branch has 4,096 changes at most."""
+    """So many calls, on 75 branches whatever their number: a call takes longer where there are more branches, and a branch has
+    4,096 changes at most."""
+    each = math.ceil(number / 75)
     found = []
-    while len(found) < number:
-        branch = len(found)
-        found.append(b"branch b%d main\n" % branch)
-        found.extend(b"record b%d p%d add f%d\n" % (branch, n, n) for n in range(branch, branch + 4000))
+    for first in range(0, number, each):
+        found.append(b"branch b%d main\n" % first)
+        found.extend(b"record b%d p%d add f%d\n" % (first, n, n) for n in range(first + 1, first + each))
     return found[:number]
 
 
