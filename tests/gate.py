@@ -136,14 +136,17 @@ def await_end(ran, limit):
     raise subprocess.TimeoutExpired(ran.args, limit)
 
 
-def processor_seconds(session):
-    """The processor seconds that the processes of a session have used, with those of its processes that have ended."""
-    found = 0
-    for process in os.listdir("/proc"):
-        with contextlib.suppress(OSError, IndexError):
-            fields = read(f"/proc/{process}/stat").rpartition(b")")[2].split()
-            found += sum(map(int, fields[11:15])) if int(fields[3]) == session else 0
-    return found / os.sysconf("SC_CLK_TCK")
+def processor_seconds(process):
+    """The processor seconds that a process and all that it started have used, also in sessions of their own, as a build does."""
+    parents, ticks = {}, {}
+    for it in filter(str.isdigit, os.listdir("/proc")):
+        with contextlib.suppress(OSError):
+            fields = read(f"/proc/{it}/stat").rpartition(b")")[2].split()
+            parents[int(it)], ticks[int(it)] = int(fields[1]), sum(map(int, fields[11:15]))
+    found = {process}
+    while more := {it for it, parent in parents.items() if parent in found} - found:
+        found |= more
+    return sum(ticks.get(it, 0) for it in found) / os.sysconf("SC_CLK_TCK")
 
 
 def run_tests(tests):
