@@ -19,12 +19,15 @@ import sys
 import tempfile
 import time
 
+from tests.harness.crates import lay_out
 from tests.harness.folders import temporary
-from tests.harness.paths import TOP, read, read_text, write_text
+from tests.harness.paths import TOP, read, read_text, write, write_text
 
 FOLDER = f"{TOP}/out/unproved"
 # Seconds between two looks at the folder, and of two looks at the processes of `rt try` one each so many.
 PAUSE, LOOKS = 0.02, 50
+# Seconds after which a program counts as hanging: beside proofs it gets little of a processor.
+TIMEOUT = 7200
 # What keeps a program running for two seconds, unless one of its crate does: commands that its input repeats; or where an allocation
 # fails, a comment that is read in pieces.
 ASKED = {"camp_shell": b"tree main\n" * 3_000, "camp": b"tree main\n" * 3_000, "worked": b"table busy\n" + b"repeat 500 0 names main\n" * 20,
@@ -49,6 +52,18 @@ def once(name, make, sources=()):
         if not is_newer(path, sources):
             make(path)
     return path
+
+
+def of_page(name, page, given, words=()):
+    """The unproved program of the crate that a page shows. What it is given keeps it running while it is built."""
+
+    def make(path):
+        with temporary("page-") as folder:
+            crate, _ = lay_out(page, folder)
+            write(f"{folder}/crates/{crate}/stdin", given)
+            build(f"{folder}/crates/{crate}", path, words)
+
+    return once(name, make, [page])
 
 
 def is_newer(path, more=()):
@@ -86,7 +101,7 @@ def try_crate(crate, words=(), given=b"", folder=None, link=None, tell=None):
         source.write(given)
         source.seek(0)
         how = {"stdin": source, "stdout": out, "stderr": error, "cwd": crate, "start_new_session": True}
-        tried = subprocess.Popen(["rt", "try", "--seconds", "600", *words], env={**os.environ, "TMPDIR": folder or tempfile.gettempdir()}, **how)
+        tried = subprocess.Popen(["rt", "try", "--seconds", str(TIMEOUT), *words], env={**os.environ, "TMPDIR": folder or tempfile.gettempdir()}, **how)
         try:
             while tried.poll() is None:
                 time.sleep(PAUSE)
