@@ -1,6 +1,8 @@
 """Programs whose allocations are counted, or one of them refused: clients/c/tests/refuse.c stands between them and the C library."""
 
+import functools
 import os
+import shutil
 import subprocess
 import tempfile
 
@@ -11,10 +13,14 @@ SOURCE = f"{TOP}/clients/c/tests/refuse.c"
 FLAGS = ["-std=c11", "-D_GNU_SOURCE", "-Wall", "-Wextra", "-Werror", "-O2", "-shared", "-fPIC"]
 
 
+@functools.lru_cache(maxsize=None)
+def shim():
+    return unproved.once("refuse.so", lambda path: subprocess.run(["cc", *FLAGS, SOURCE, "-o", path], check=True), [SOURCE])
+
+
 def refusing(number, counts=None):
     """The environment in which the allocation of this number is refused (0: none), and all are counted in a file of eight zero bytes."""
-    shim = unproved.once("refuse.so", lambda path: subprocess.run(["cc", *FLAGS, SOURCE, "-o", path], check=True), [SOURCE])
-    return {**os.environ, "LD_PRELOAD": shim, "CAMP_REFUSED": str(number), **({"CAMP_ALLOCATIONS": counts} if counts else {})}
+    return {**os.environ, "LD_PRELOAD": shim(), "CAMP_REFUSED": str(number), **({"CAMP_ALLOCATIONS": counts} if counts else {})}
 
 
 def counted(words, given):
@@ -34,7 +40,10 @@ def is_failing(program):
 
 def can_refuse(report, program):
     """Whether a program's allocations are asked of the C library: the checks of one that was built without proofs have a memory of their own."""
-    if is_failing(program) or counted([program], b"#\n")[1]:
+    if not shutil.which("cc"):
+        report.skip("a C compiler")
+    elif is_failing(program) or counted([program], b"#\n")[1]:
         return True
-    report.skip("refused allocations: the program was built without proofs")
+    else:
+        report.skip("refused allocations: the program was built without proofs")
     return False
