@@ -15,6 +15,7 @@ with the escapes of tests/harness/golden.py.
     files NAME ..                 the folder has these files and no others
 """
 
+import contextlib
 import os
 import re
 import tempfile
@@ -83,14 +84,16 @@ class Session:
 
     def run(self, *words, given="", output="", error="", status_word="0", input_word=None, output_word=None):
         self.before = {it: read(self.path(it)) for it in os.listdir(self.folder) if os.path.isfile(self.path(it))}
-        ends = {"stdin": input_word, "stdout": output_word}
-        files = {it: os.open(os.path.join(self.folder, path), os.O_RDWR if it == "stdout" else 0) for it, path in ends.items() if path not in (None, "closed")}
-        how = {**files, "preexec_fn": lambda: [os.close(at) for at, path in enumerate(ends.values()) if path == "closed"]}
-        done = programs.run([self.program, *words], unescape(given), cwd=self.folder, **how)
-        for it in files.values():
-            os.close(it)
-        wanted = unescape(output) or (None if "stdout" in files else b""), done.stderr if error == "...\n" else unescape(error)
-        self.report.expect_run(f"{self.title}: {' '.join(words)}", done, *wanted, int(status_word))
+        how = {"cwd": self.folder, "preexec_fn": lambda: [os.close(at) for at, end in enumerate((input_word, output_word)) if end == "closed"]}
+        with contextlib.ExitStack() as opened:
+            for stream, end, way in (("stdin", input_word, os.O_RDONLY), ("stdout", output_word, os.O_RDWR)):
+                if end not in (None, "closed"):
+                    how[stream] = os.open(os.path.join(self.folder, end), way)
+                    opened.callback(os.close, how[stream])
+            done = programs.run([self.program, *words], unescape(given), **how)
+        wanted_output = None if "stdout" in how else unescape(output)
+        wanted_error = done.stderr if error == "...\n" else unescape(error)
+        self.report.expect_run(f"{self.title}: {' '.join(words)}", done, wanted_output, wanted_error, int(status_word))
         self.report.count("runs")
 
     def same(self, *names):
