@@ -28,19 +28,16 @@ FOLDER = f"{TOP}/out/unproved"
 PAUSE, LOOKS = 0.02, 50
 # Seconds after which a program counts as hanging: beside proofs it gets little of a processor.
 TIMEOUT = 7200
-# What keeps a program running for two seconds, unless one of its crate does: commands that its input repeats; or where an allocation
-# fails, a comment that is read in pieces.
+# What keeps a program running for two seconds, unless one of its crate does: commands that its input repeats.
 ASKED = {"camp_shell": b"tree main\n" * 3_000, "camp": b"tree main\n" * 3_000, "worked": b"table busy\n" + b"repeat 500 0 names main\n" * 20,
          "worked_talks": b"ends talk: 4000000000 99 4000000000 99 0\n" + b"tree main\n" * 3_000}
-ASKED_WITH_FAULT = {**ASKED, "camp_shell": b"#" * 4_000_000 + b"\n"}
 # The last line of `rt try` where the program ran.
 RAN = re.compile(rb"^(?:run=(?!none)|calls=).*proved=no$", re.M)
 
 
-def program(crate, fail_alloc=None, tell=None):
-    """The unproved program of a crate of this repository; with `fail_alloc` its allocation of that number fails."""
-    name, words = (f"{crate}-fail-alloc-{fail_alloc}", ["--fail-alloc", str(fail_alloc)]) if fail_alloc else (crate, [])
-    return once(name, lambda path: build(f"{TOP}/crates/{crate}", path, words, tell))
+def program(crate, tell=None):
+    """The unproved program of a crate of this repository."""
+    return once(crate, lambda path: build(f"{TOP}/crates/{crate}", path, tell=tell))
 
 
 def once(name, make, sources=()):
@@ -79,7 +76,7 @@ def build(crate, path, words=(), tell=None):
     if not shutil.which("rt"):
         sys.exit("the kit's command rt is not on the PATH: see README.md")
     name = os.path.basename(crate)
-    busy = (ASKED_WITH_FAULT if words else ASKED).get(name) or read(f"{crate}/stdin")
+    busy = ASKED.get(name) or read(f"{crate}/stdin")
     new, started = path + ".new", time.time()
     with contextlib.suppress(FileNotFoundError):
         os.remove(new)
