@@ -1,6 +1,6 @@
 """camp ends with status 3 and no half answer where its input, its output or memory fails.
 
-Words: ends, memory name parts; spaces: some 600 address spaces, a page apart, for five minutes.
+Words: ends, memory name parts; spaces: some 600 address spaces of each script, a page apart.
 """
 
 import resource
