@@ -22,6 +22,9 @@ from tests.harness.paths import TOP, read, read_text, write_text
 # A test counts as hanging where it takes so many times the seconds that it says, and so many seconds at least, and then uses no
 # processor for a minute: beside proofs it gets little of one. After four times as long it is ended in any case.
 PATIENCE, LEAST, MINUTE, IN_ANY_CASE = 20, 1800, 60, 4
+# The niceness of what runs beside the proofs and gives way to them, and of what is ready before the last proof, on which the end of the gate
+# waits: two tests in sessions of their own would else leave it two thirds of a processor.
+GIVING_WAY, SHARING = 10, 5
 # Seconds without a line after which the progress is printed.
 QUIET = 50
 # So many of the last lines of each part that failed are printed once more at the end.
@@ -136,14 +139,17 @@ def await_end(ran, limit):
     raise subprocess.TimeoutExpired(ran.args, limit)
 
 
-def processor_seconds(session):
-    """The processor seconds that the processes of a session have used, with those of its processes that have ended."""
-    found = 0
-    for process in os.listdir("/proc"):
-        with contextlib.suppress(OSError, IndexError):
-            fields = read(f"/proc/{process}/stat").rpartition(b")")[2].split()
-            found += sum(map(int, fields[11:15])) if int(fields[3]) == session else 0
-    return found / os.sysconf("SC_CLK_TCK")
+def processor_seconds(process):
+    """The processor seconds that a process and all that it started have used, also in sessions of their own, as a build does."""
+    parents, ticks = {}, {}
+    for it in filter(str.isdigit, os.listdir("/proc")):
+        with contextlib.suppress(OSError):
+            fields = read(f"/proc/{it}/stat").rpartition(b")")[2].split()
+            parents[int(it)], ticks[int(it)] = int(fields[1]), sum(map(int, fields[11:15]))
+    found = {process}
+    while more := {it for it, parent in parents.items() if parent in found} - found:
+        found |= more
+    return sum(ticks.get(it, 0) for it in found) / os.sysconf("SC_CLK_TCK")
 
 
 def run_tests(tests):
@@ -173,7 +179,7 @@ def run_all():
         os.environ["CAMP_TREE"] = progress.tree = f"{folder}/tree"
         is_kept = not os.environ.get("CI") and products.unpack_tree(progress.tree)
         for crate in (it for it in uses if glob.glob(f"{TOP}/crates/{it}/must-fail/*.edit")):
-            waiting.append((below(crate, uses), mutants, ["--over", progress.tree, crate], 10, f"{mutants.name} {crate}"))
+            waiting.append((below(crate, uses), mutants, ["--over", progress.tree, crate], GIVING_WAY, f"{mutants.name} {crate}"))
             progress.left += 1
         if is_kept:
             lend_library(progress.tree)
@@ -198,18 +204,19 @@ def run_around(progress, beside, waiting, uses, is_kept):
     """Runs tests beside the proofs, and others as soon as what they wait for is proved. Returns whether all crates are."""
     with ThreadPoolExecutor(programs.JOBS) as others, ThreadPoolExecutor(programs.JOBS) as pool:
         for it in beside:
-            others.submit(run_one, it, progress, it.gate_words, 10)
+            others.submit(run_one, it, progress, it.gate_words, GIVING_WAY)
 
-        def start_ready(*_):
+        def start_ready(niceness=0):
             for it in [it for it in waiting if it[0] <= progress.proved]:
                 waiting.remove(it)
-                pool.submit(run_one, it[1], progress, *it[2:])
+                _, test, words, least, title = it
+                pool.submit(run_one, test, progress, words, max(least, niceness), title)
 
         start_ready()
         if is_kept:
             progress.tell("rt ci: not run, since ./build or an earlier gate has proved this text; CI=1 .ci/run proves from nothing")
             progress.left -= 1
-        is_proved = is_kept or prove(progress, start_ready)
+        is_proved = is_kept or prove(progress, lambda: start_ready(SHARING))
         if is_proved:
             progress.proved.update(uses)
         start_ready()

@@ -21,6 +21,8 @@ from member_model import ModelMember
 NO_REPLY = (b"stopped\n", NOT_READ, NOT_TAKEN)
 # What comes late comes within so many seconds.
 LATE = 0.5
+# A member that had no answer for so many seconds gives up.
+SILENCE = 300
 Asked = collections.namedtuple("Asked", "seat turn call at_least asked")
 Answered = collections.namedtuple("Answered", "request answer place answered")
 
@@ -174,9 +176,9 @@ class Run:
     def _member(self, at, kind):
         chance = random.Random("%s %d" % (self.seed, at))
         member, log = kind(), Lossy(open_log(self.log_name), chance)
-        asked, answered, alive = 0, 0, time.monotonic() + 300
+        asked, answered, last = 0, 0, time.monotonic()
         try:
-            while answered < self.calls and time.monotonic() < alive:
+            while answered < self.calls and time.monotonic() < last + SILENCE:
                 while asked < self.calls and asked - answered < 1 + chance.randrange(8):
                     with self.lock:
                         at_least = self.seen if chance.random() < 0.3 else 0
@@ -184,7 +186,8 @@ class Run:
                     member.ask(call, at_least, Asked(member.seat, asked, call, at_least, time.monotonic()))
                     asked += 1
                 turn(member, log)
-                answered += self._take(member)
+                taken = self._take(member)
+                answered, last = answered + taken, time.monotonic() if taken else last
         except Stopped as stopped:
             self._take(member)
             self.stops.append(stopped)

@@ -127,51 +127,44 @@ def at_calls(store):
         cut_writes(store, what, alone, 1 if store.is_all else 9)
 
 
-def kill_at_each(store, what, alone):
-    turn, goes_on = 0, True
-    while goes_on:
+def in_turn(store, what, alone, is_met, decision):
+    """Runs the program again and again: this befalls each call that is met in its turn, and at last none. Yields the turn, the path and
+    how many calls the store had, the calls that were met, and what came of the run."""
+    for turn in itertools.count():
         path, first = prepared(store, what)
-        met = 0
+        met = []
 
         def at_call(number, call):
-            nonlocal met
-            met += store.is_all or call.name is not None
-            return "kill" if met > turn else None
+            if is_met(call):
+                met.append(call)
+            return decision if is_met(call) and len(met) == turn + 1 else None
 
-        status, out, _, _ = trace(store, path, first, alone, at_call)
-        goes_on = status < 0
+        yield turn, path, first, met, trace(store, path, first, alone, at_call)
+        if len(met) <= turn:
+            return
+
+
+def kill_at_each(store, what, alone):
+    for turn, path, first, _, (_, out, _, _) in in_turn(store, what, alone, lambda call: store.is_all or call.name is not None, "kill"):
         is_durable(store, f"{what}, killed at call {turn}", path, first, out.count(b"\n"), alone)
-        turn += 1
         store.count("kills at a system call")
 
 
 def fail_each(store, what, alone, error):
     """Each write and sync fails in turn. After a sync that fails nothing more is asked of the file."""
-    turn, failed = 0, True
-    while failed:
-        path, first = prepared(store, what)
-        named = []
-
-        def at_call(number, call):
-            if call.name in ("write", "pwrite", "fsync", "fdatasync") and call.file != "error":
-                named.append(call)
-                if len(named) == turn + 1:
-                    return ("fail", error)
-            return None
-
-        status, out, told, _ = trace(store, path, first, alone, at_call)
-        failed = named[turn] if len(named) > turn else None
-        if failed:
-            name = f"{what}, {failed.name} {turn} fails"
-            store.expect(f"{name}: status", (status, told.startswith(b"camp_shell: ")), (3, True))
-            if failed.name == "fdatasync":
-                store.expect(f"{name}: calls after it", [it for it in named[turn + 1 :] if it.file != "out"], [])
-            answered = out.count(b"\n")
-            if failed.file != "out":
-                store.expect(f"{name}: answers", out, oks(first + answered, first + 1))
-            is_durable(store, name, path, first, answered, alone)
-            store.count("failed calls")
-        turn += 1
+    is_met = lambda call: call.name in ("write", "pwrite", "fsync", "fdatasync") and call.file != "error"
+    for turn, path, first, met, (status, out, told, _) in in_turn(store, what, alone, is_met, ("fail", error)):
+        if len(met) <= turn:
+            break
+        failed, name = met[turn], f"{what}, {met[turn].name} {turn} fails"
+        store.expect(f"{name}: status", (status, told.startswith(b"camp_shell: ")), (3, True))
+        if failed.name == "fdatasync":
+            store.expect(f"{name}: calls after it", [it for it in met[turn + 1 :] if it.file != "out"], [])
+        answered = out.count(b"\n")
+        if failed.file != "out":
+            store.expect(f"{name}: answers", out, oks(first + answered, first + 1))
+        is_durable(store, name, path, first, answered, alone)
+        store.count("failed calls")
 
 
 def cut_writes(store, what, alone, step):

@@ -7,7 +7,6 @@ patches then, `annotate` has to agree on each file. And each line of each branch
 """
 
 import itertools
-from concurrent.futures import ThreadPoolExecutor
 
 from tests.harness import programs
 from tests.harness.scripts import Chance, Maker
@@ -18,11 +17,10 @@ SECONDS, GATE = 6, "after camp_shell"
 def run(report, words):
     first, last = map(int, words or (1, 225))
     program = programs.path("camp_shell")
-    with ThreadPoolExecutor(programs.JOBS) as pool:
-        for history in pool.map(lambda seed: History(program, seed), (it for it in range(first, last + 1) if it % 3)):
-            history.compare_pairs(report)
-            history.compare_lines(report)
-            report.count("histories")
+    for _, history in programs.each(lambda seed: History(program, seed), (it for it in range(first, last + 1) if it % 3)):
+        history.compare_pairs(report)
+        history.compare_lines(report)
+        report.count("histories")
     if not report.counts.get("conflicts"):
         report.fail("no pair of branches has a conflict")
 

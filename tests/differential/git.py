@@ -7,7 +7,6 @@ Each branch is exported by `camp_shell --export` into `git fast-import`.
 import os
 import shutil
 import tempfile
-from concurrent.futures import ThreadPoolExecutor
 
 from tests.harness import programs
 from tests.harness.conversation import responses
@@ -23,8 +22,8 @@ def run(report, words):
     if shutil.which("git") is None:
         return report.skip("git is not here")
     program = programs.path("camp_shell")
-    with ThreadPoolExecutor(programs.JOBS) as pool:
-        list(pool.map(lambda it: Export(report, program, it[0]).try_script(it[1]), scripts(words)))
+    for _ in programs.each(lambda it: Export(report, program, it[0]).try_script(it[1]), scripts(words)):
+        report.count("scripts")
 
 
 def scripts(words):
@@ -125,7 +124,6 @@ class Export:
                 if fault:
                     self.report.fail(f"{self.name}: {branch.decode()}: {fault}")
             self.check(repository)
-            self.report.count("scripts")
 
     def check(self, repository):
         head = repository.git("for-each-ref", "--count=1", "--format=%(refname)").stdout.decode().strip()

@@ -8,7 +8,6 @@ Words: none: the scripts of tests/data/random_scripts, by the digests of their a
 import hashlib
 import os
 import sys
-from concurrent.futures import ThreadPoolExecutor
 
 from tests.harness import golden, programs
 from tests.harness.scripts import script_of
@@ -20,30 +19,25 @@ def run(report, words):
     if words[:1] == ["--show"]:
         sys.stdout.buffer.write(script_of(int(words[1])))
         return report.count("scripts")
-    program = None if words[:1] == ["--table"] else programs.path("camp")
-    with ThreadPoolExecutor(programs.JOBS) as pool:
-        if not words:
-            compare_with_table(report, pool, program)
-        else:
-            seeds = range(int(words[2]), int(words[3]) + 1)
-            {"--against": compare, "--table": print_table}[words[0]](report, pool, program, words[1], seeds)
-
-
-def compare_with_table(report, pool, program):
-    rows = [line.split() for (line,) in golden.rows("random_scripts")]
-    for (seed, wanted), found in zip(rows, pool.map(lambda row: digest(program, int(row[0])), rows)):
-        report.expect(f"the script of seed {seed}", found, wanted)
+    if words[:1] == ["--table"]:
+        return print_table(report, words[1], range(int(words[2]), int(words[3]) + 1))
+    program = programs.path("camp")
+    if words[:1] == ["--against"]:
+        return compare(report, program, words[1], range(int(words[2]), int(words[3]) + 1))
+    table = {int(seed): wanted for seed, wanted in (line.split() for (line,) in golden.rows("random_scripts"))}
+    for seed, found in programs.each(lambda seed: digest(program, seed), table):
+        report.expect(f"the script of seed {seed}", found, table[seed])
         report.count("scripts")
 
 
-def compare(report, pool, program, other, seeds):
-    for seed, pair in zip(seeds, pool.map(lambda seed: (answer(program, seed), answer(other, seed)), seeds)):
+def compare(report, program, other, seeds):
+    for seed, pair in programs.each(lambda seed: (answer(program, seed), answer(other, seed)), seeds):
         report.expect(f"the script of seed {seed}", *pair)
         report.count("scripts")
 
 
-def print_table(report, pool, _, other, seeds):
-    for seed, found in zip(seeds, pool.map(lambda seed: digest(other, seed), seeds)):
+def print_table(report, other, seeds):
+    for seed, found in programs.each(lambda seed: digest(other, seed), seeds):
         print(seed, found)
         report.count("scripts")
 

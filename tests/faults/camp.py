@@ -1,81 +1,45 @@
 """camp ends with status 3 and no half answer where its input, its output or memory fails.
 
-Words: ends, memory name parts.
+Words: ends, memory name parts; spaces: some 600 address spaces of each script, a page apart.
 """
 
-import os
-import subprocess
+import resource
 
-from tests.harness import golden, programs
+from tests.harness import programs, sessions
 from tests.harness.camp import Camp
 from tests.harness.paths import EXAMPLES, read
 
 SECONDS, GATE = 8, "after camp"
+WAYS = ("--serial", "--tries=1000")
 # Address spaces in KiB, from one in which no script is answered to one with room for threads.
 SIZES = (8000, 10000, 12000, 14000, 16000, 20000, 24000, 32000, 64000, 1000000)
+PAGE = resource.getpagesize() // 1024
+# So many pages below the least size that is enough, and some above it; then sizes so many KiB apart, up to the last.
+BELOW, ABOVE, APART, LAST = 200, 20, 256, 100_000
 
 
 def run(report, words):
-    camp = Camp(report)
-    parts = {"ends": ends, "memory": memory}
-    for name in words or parts:
-        parts[name](camp)
-
-
-def closed(number):
-    """Closes one of the program's streams before it starts."""
-    return {"preexec_fn": lambda: os.close(number)}
+    camp, parts = Camp(report), {"ends": ends, "memory": memory, "spaces": spaces}
+    for name in words or ("ends", "memory"):
+        if name == "ends" or programs.is_plain(camp.program):
+            parts[name](camp)
+        else:
+            report.skip("address spaces: the program was built without proofs, and its checks want terabytes of them")
 
 
 def ends(camp):
-    """Inputs that cannot be read, and outputs that cannot be written."""
-    script = read(f"{EXAMPLES}/first.camp")
-    for flags in (["--tries=1"], ["--serial"], ["--history"]):
-        unreadable(camp, flags)
-        unwritable(camp, script, flags)
-    with open("/dev/full", "wb") as full:
-        camp.expect("help, to a full device", written(camp.run(script, ["--help"], stdout=full)), b"", b"cannot write output: No space left on device (os error 28)", 3)
-        # A mistake in the command line is found before anything is read, a fault before anything is written, and no answers
-        # are always written.
-        wanted = next(golden.unescape(error) for flags, error in golden.rows("refused_options") if flags == "--tries 0")
-        done = camp.run(b"", ["--tries", "0"], stdin=subprocess.DEVNULL, **closed(0))
-        camp.report.expect_run("no tries, and a closed input", done, b"", wanted, 2)
-        fault = camp.run(read(f"{EXAMPLES}/fault.camp"), stdout=full)
-        camp.expect("a fault, and a full device", written(fault), b"", b"line 3: unknown command", 1)
-        camp.expect("no answers, and a full device", written(camp.run(b"", stdout=full)))
-
-
-def unreadable(camp, flags):
-    folder = os.open(EXAMPLES, os.O_RDONLY)
-    camp.expect(f"a directory as input {flags}", camp.run(b"", flags, stdin=folder), b"", b"cannot read input", 3)
-    os.close(folder)
-    camp.expect(f"a closed input {flags}", camp.run(b"", flags, stdin=subprocess.DEVNULL, **closed(0)), b"", b"cannot read input", 3)
-
-
-def unwritable(camp, script, flags):
-    with open("/dev/full", "wb") as full:
-        camp.expect(f"a full device as output {flags}", written(camp.run(script, flags, stdout=full)), b"", b"cannot write output", 3)
-    camp.expect(f"a closed output {flags}", camp.run(script, flags, **closed(1)), b"", b"cannot write output", 3)
-
-
-def written(done):
-    """A run whose output went elsewhere."""
-    done.stdout = b""
-    return done
+    sessions.play_all(camp.report, camp.program, "ends", "failing ends")
 
 
 def memory(camp):
     """Address spaces that are too small: no answer and status 3, or all of them."""
-    if not programs.is_plain(camp.program):
-        camp.report.skip("address spaces: the program was built without proofs, and its checks want terabytes of them")
-        return
     comments = b"# comment\n" * 2_000_000
     too_small(camp, "the input", comments, 16000, b"")
     script = b"record main a add f\nrecord main b edit f 1\n" + b"+a line of text\n" * 60_000 + b"end\n" + b"tree main\n" * 50
     too_small(camp, "the answers", script, 40000, b"ok 1\nok 2\n" + (b"tree 1\nfile f 60000\n" + b"=a line of text\n" * 60_000) * 50)
     for name in ("readme", "clients"):
-        for flag in ("--serial", "--tries=1000"):
-            growing_spaces(camp, name, flag)
+        for flag in WAYS:
+            try_sizes(camp, name, read(f"{EXAMPLES}/{name}.camp"), flag, SIZES)
 
 
 def too_small(camp, what, script, size, answers):
@@ -84,13 +48,49 @@ def too_small(camp, what, script, size, answers):
     camp.expect(f"room for {what}", camp.run(script), answers)
 
 
-def growing_spaces(camp, name, flag):
-    """The answers are sorted, since only the numbers after ok depend on the order of threads."""
-    script = read(f"{EXAMPLES}/{name}.camp")
-    ample = sorted(camp.run(script, [flag]).stdout.splitlines())
-    for size in SIZES:
-        done = programs.run(programs.limited([camp.program, flag], v=size), script)
-        found = (done.returncode, sorted(done.stdout.splitlines()), done.stderr)
-        wanted = (0, ample, b"") if done.returncode == 0 else (3, [], b"camp: out of memory\n")
-        camp.report.expect(f"{size} KiB, {name} {flag}", found, wanted)
-        camp.report.count("address spaces")
+def spaces(camp):
+    """Sizes near the least one that is enough, for three scripts."""
+    for name, script in [*((it, read(f"{EXAMPLES}/{it}.camp")) for it in ("readme", "clients")), ("long", long_script())]:
+        for flag in WAYS:
+            try_sizes(camp, name, script, flag, sizes_of(lambda size: answer(camp, script, flag, size)[0] == 0))
+
+
+def try_sizes(camp, name, script, flag, sizes):
+    """All answers are given, or none with status 3 and one line of error."""
+    ample, begun = answer(camp, script, flag, 1_000_000)[1], False
+    for size, (status, lines, error) in programs.each(lambda size: answer(camp, script, flag, size), sizes):
+        # Below some size the program is not even loaded.
+        begun = begun or status in (0, 3) or sizes == SIZES
+        if begun or lines:
+            wanted = (0, ample, b"") if status == 0 else (3, [], b"camp: out of memory\n")
+            camp.report.expect(f"{size} KiB, {name} {flag}", (status, lines, error), wanted)
+        camp.report.count("address spaces" if begun else "address spaces that are too small to begin")
+
+
+def answer(camp, script, flag, size):
+    """The status, the answers, and the error. The answers are sorted: only the numbers after ok depend on the order of threads."""
+    done = programs.run(programs.limited([camp.program, flag], v=size), script)
+    return done.returncode, sorted(done.stdout.splitlines()), done.stderr
+
+
+def long_script():
+    """Two branches that edit lines of one file, some of them in conflict; a client pulls one of them, another asks."""
+    lines = ["record main a add f", "record main b edit f 1", *(f"+{at}" for at in range(200)), "end", "branch x main"]
+    for at in range(1, 200, 4):
+        for branch, new in (("main", "m"), ("x", "x")):
+            line = at if branch == "main" or at % 3 else at + 2
+            lines += [f"record {branch} {new}{at} edit f {line}", f"-{line - 1}", f"+{new}{line}", "end"]
+    lines += ["client", "pull x main", "tree main", "client", "conflicts x", "tree x"]
+    return "".join(line + "\n" for line in lines).encode()
+
+
+def sizes_of(is_enough):
+    """The sizes that are tried, round the fewest pages that are enough, as far as halving tells."""
+    low, high = 0, 1
+    while not is_enough(high * PAGE):
+        low, high = high, 2 * high
+    while high - low > 1:
+        middle = (low + high) // 2
+        low, high = (low, middle) if is_enough(middle * PAGE) else (middle, high)
+    near = [it * PAGE for it in range(max(1, high - BELOW), high + ABOVE)]
+    return [*near, *range(near[-1] + APART, LAST, APART)]

@@ -9,7 +9,6 @@ import itertools
 import tempfile
 
 from tests.harness import tracing, unproved
-from tests.harness.crates import lay_out
 from tests.harness.paths import DATA, write
 from tests.harness.store import TITLE, calls, encode, overwrite
 
@@ -24,20 +23,13 @@ BUSY = 1_000
 def run(report, words):
     if not tracing.can_trace():
         return report.skip("no program can be traced here")
-    program = unproved.once("commits", build, [PAGE])
+    program = unproved.of_page("commits", PAGE, b"".join(calls(BUSY)))
     with tempfile.TemporaryDirectory(prefix="commits-") as folder:
         for turn in itertools.count():
             if not fail_at(report, program, folder, turn):
                 break
             report.count("failed writes and syncs")
     report.expect("writes and syncs", turn, OPENING + MORE * EACH)
-
-
-def build(path):
-    with tempfile.TemporaryDirectory(prefix="commits-") as folder:
-        name, _ = lay_out(PAGE, folder)
-        write(f"{folder}/crates/{name}/stdin", b"".join(calls(BUSY)))
-        unproved.build(f"{folder}/crates/{name}", path)
 
 
 class Disk:

@@ -27,6 +27,8 @@ SECONDS, GATE = 90, "after camp_c"
 MEMBERS, KILLS, LIFE = 4, 12, (0.3, 1.2)
 # The leader of etcd is paused for so many seconds.
 PAUSE = 6
+# Members of etcd are asked so many times: on a machine with other work none may answer for a while.
+TIMES = 60
 # Members stand still where none was answered for so many seconds. One starves where it was answered less than was waited for while each other
 # one was answered so many calls, and that for so many seconds.
 STILL, MANY, LONG = 600, 300, 60
@@ -214,8 +216,8 @@ def changed(report, endpoints, environment, path, more):
     prefix = f"changed-{path.rpartition('/')[2]}"
     address, first, last = f"etcd:{endpoints}/{prefix}", code(f"{prefix}/entries/"), code(f"{prefix}/entries0")
     three = programs.run([sys.executable, "-c", MEMBER.replace("1_000_000", "3"), address, "p"], env=environment)
-    keys = ask(endpoints, "kv/range", {"key": first, "range_end": last, "keys_only": True, "sort_target": "CREATE"})["kvs"]
-    ask(endpoints, path, {"key": keys[2]["key"], **more})
+    keys = ask(endpoints, "kv/range", {"key": first, "range_end": last, "keys_only": True, "sort_target": "CREATE"}, TIMES)["kvs"]
+    ask(endpoints, path, {"key": keys[2]["key"], **more}, TIMES)
     done = programs.run([sys.executable, "-c", MEMBER, address, "q"], env=environment)
     why = "an entry was changed or removed: the log is read up to entry 4 alone"
     report.expect(f"{path}: calls before and after", (three.returncode, len(keys), done.returncode, why in done.stderr.decode()), (0, 4, 1, True))
@@ -227,9 +229,9 @@ def code(key):
     return base64.b64encode(key.encode()).decode()
 
 
-def ask(endpoints, path, asked):
-    """The answer of the first member of etcd that gives one."""
-    for endpoint in endpoints.split(","):
+def ask(endpoints, path, asked, times=1):
+    """The answer of the first member of etcd that gives one; all are asked so many times."""
+    for endpoint in times * endpoints.split(","):
         with contextlib.suppress(OSError), urllib.request.urlopen(f"http://{endpoint}/v3/{path}", json.dumps(asked).encode(), timeout=30) as response:
             return json.load(response)
     raise OSError("no member of etcd answers")

@@ -5,19 +5,16 @@ allocations fail. Inputs get shorter until 16 of them in a row have refused noth
 """
 
 import subprocess
-import tempfile
-from concurrent.futures import ThreadPoolExecutor
 
 from tests.harness import programs, unproved
-from tests.harness.crates import lay_out
-from tests.harness.paths import DATA, write
+from tests.harness.paths import DATA
 
 SECONDS, GATE = 100, "beside"
 PAGE = f"{DATA}/members"
 # The number of the allocation that fails.
 REFUSED = 4_000
 # So many runs in a row that refuse nothing say that all allocations were refused.
-NOTHING, BATCH = 16, 64
+NOTHING = 16
 # So many bytes keep the program running for a second or more once it is built.
 BUSY = 1_000_000
 # What the members answer: the patches of both are in conflict, so the file has no line.
@@ -25,28 +22,18 @@ WANTED = b"ok 1\nok 2\nok 3\nok 4\nok 5\ntree 1\nfile f 0\nconflicts 1\none two\
 
 
 def run(report, words):
-    program = unproved.once("members", build, [PAGE])
+    program = unproved.of_page("members", PAGE, b"x" * BUSY, ["--fail-alloc", str(REFUSED)])
     quiet, has_begun = 0, False
-    with ThreadPoolExecutor(programs.JOBS) as pool:
-        for last in range(REFUSED, 0, -BATCH):
-            numbers = range(last, last - BATCH, -1)
-            for number, done in zip(numbers, pool.map(lambda it: ask(program, it), numbers)):
-                answers, _, refused = done.stdout.rpartition(b"out of memory ")
-                report.expect(f"{number} allocations before: status, answers", (done.returncode, answers), (0, WANTED))
-                report.count("refused allocations", refused == b"1\n")
-                has_begun = has_begun or refused == b"1\n"
-                quiet = quiet + 1 if has_begun and refused == b"0\n" else 0
-            if quiet >= NOTHING:
-                return
+    for number, done in programs.each(lambda it: ask(program, it), range(REFUSED, 0, -1)):
+        answers, _, refused = done.stdout.rpartition(b"out of memory ")
+        report.expect(f"{number} allocations before: status, answers", (done.returncode, answers), (0, WANTED))
+        report.count("refused allocations", refused == b"1\n")
+        has_begun = has_begun or refused == b"1\n"
+        quiet = quiet + 1 if has_begun and refused == b"0\n" else 0
+        if quiet == NOTHING:
+            return
     report.fail("the members make more allocations than can be refused")
 
 
 def ask(program, before):
     return programs.run([program], b"x" * before, stderr=subprocess.DEVNULL)
-
-
-def build(path):
-    with tempfile.TemporaryDirectory(prefix="members-") as folder:
-        name, _ = lay_out(PAGE, folder)
-        write(f"{folder}/crates/{name}/stdin", b"x" * BUSY)
-        unproved.build(f"{folder}/crates/{name}", path, ["--fail-alloc", str(REFUSED)])

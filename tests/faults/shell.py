@@ -6,9 +6,9 @@ Words: outputs, inputs, memory name parts.
 import os
 import tempfile
 
-from tests.harness import programs
+from tests.harness import programs, sessions
 from tests.harness.conversation import ask
-from tests.harness.paths import EXAMPLES, TOP, read
+from tests.harness.paths import EXAMPLES, read
 from tests.harness.store import oks
 
 SECONDS, GATE = 6, "after camp_shell"
@@ -69,15 +69,7 @@ def closed_help(report, program, flag):
 
 
 def inputs(report, program):
-    source = os.open(TOP, os.O_RDONLY)
-    done = programs.run([program], stdin=source)
-    os.close(source)
-    report.expect_run("a directory as input", done, b"", b"camp_shell: cannot read input: Is a directory (os error 21)\n", 3)
-    with open("/dev/full", "wb") as full:
-        done = programs.run([program], b"tree main\n", stdout=full)
-    error = b"camp_shell: cannot write output: No space left on device (os error 28)\n"
-    report.expect("a full device", (done.stderr, done.returncode), (error, 3))
-    report.count("failing ends", 2)
+    sessions.play_all(report, program, "shell_ends", "failing ends")
 
 
 def memory(report, program):

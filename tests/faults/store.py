@@ -162,42 +162,23 @@ def full_disk(store):
 
 
 def refused(store):
-    """What cannot be opened, or is no store, stays as it is."""
-    refuse(store, store.folder, "camp_shell: " + store.folder)
-    refuse(store, store.path("none/store"), "No such file")
-    other = store.path("text")
-    for content in (b"hello\n", b"record main a add f\n", b"SQLite format 3\0", b"~" + b"x" * 80, b"~" + b"x" * 100, b"=0000000d 992e69d3c8bc1bf2\ncamp store 2\n~", encode([b"camp store 2\n"])):
-        write(other, content)
-        refuse(store, other, NO_STORE)
-        store.expect("the file", read(other), content)
-    path, link = store.path("store"), store.path("link")
+    """A store that another process has, or that may not be written, stays as it is. (What is no store: tests/data/stores.)"""
+    path = store.path("store")
     store.run(path, b"".join(calls(2)))
-    os.symlink(path, link)
-    store.expect("a link", store.run(link, calls(1, 2)[0]).stdout, b"ok 3\n")
-    os.symlink(store.path("nowhere"), link + "2")
-    refuse(store, link + "2", "camp_shell: ")
-    os.link(path, path + "2")
-    refuse(store, path, "camp_shell: ")
-    os.remove(path + "2")
     in_use(store, path)
     read_only(store, path)
-    store.expect("files beside it", sorted(os.listdir(store.folder)), ["link", "link2", "store", "text"])
-
-
-def refuse(store, path, error, **how):
-    done = store.run(path, calls(1)[0], **how)
-    store.expect(path, (done.returncode, done.stdout, error in done.stderr.decode(errors="replace")), (3, b"", True))
-    store.count("refused files")
+    store.expect("files beside it", os.listdir(store.folder), ["store"])
 
 
 def in_use(store, path):
     """A second process is refused while one has the store; a check reads it."""
     peer = store.start(path)
-    programs.send(peer, calls(1, 3)[0])
-    store.expect("the first process", peer.stdout.readline(), b"ok 4\n")
-    refuse(store, path, f"camp_shell: {path}: in use")
-    store.expect("checked while it runs", store.check(path), 4)
+    programs.send(peer, calls(1, 2)[0])
+    store.expect("the first process", peer.stdout.readline(), b"ok 3\n")
+    store.report.expect_run("the second process", store.run(path, calls(1)[0]), b"", f"camp_shell: {path}: in use\n".encode(), 3)
+    store.expect("checked while it runs", store.check(path), 3)
     peer.communicate()
+    store.count("refused files")
 
 
 def become_nobody():

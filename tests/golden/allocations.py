@@ -1,20 +1,18 @@
 """An operation makes as many allocations as crates/worked/allocations says, on a small value and on a large one; or takes a time like its size.
 
-What two tables allocate, one without the operation and one with it, differs by what it allocates; the program with a failing
-allocation tells how many it can still make after a table. A row `grows` has two sizes and the lines of a table: its time
-grows with the size, give or take a factor of two.
+What two tables allocate, one without the operation and one with it, differs by what it allocates. A row `grows` has two sizes and the
+lines of a table: its time grows with the size, give or take a factor of two.
 """
 
 import re
-import subprocess
-from concurrent.futures import ThreadPoolExecutor
 
 from tests.harness import programs
 from tests.harness.paths import WORKED, read_text
-from tests.harness.worked import REFUSED, failing_program
+from tests.harness.refusals import can_refuse, counted, is_failing
 
-SECONDS, GATE = 15, "beside"
-
+SECONDS, GATE = 15, "after worked"
+# The allocation that fails in a program of mutants/test.
+REFUSED = 4_000
 
 GROWS = re.compile(r"^grows (\d+) (\d+) \| (.*)\n", re.M)
 
@@ -64,18 +62,21 @@ def filled(text, size):
     return text.encode()
 
 
-def allocations_left(program, table):
-    """How many allocations can be made after the table, and the answer of its last line."""
-    done = programs.run([program, str(REFUSED)], table, stderr=subprocess.DEVNULL)
-    *_, answer, left = done.stdout.decode(errors="replace").splitlines()
-    return (int(left.split()[1]) if done.returncode == 0 else None), answer
+def run_of(program, table):
+    """What a table is answered at its end, and how many allocations were made. A program that was built without proofs so that one of them
+    fails counts from there: it tells how many it can still make."""
+    if not is_failing(program):
+        done, count = counted([program], table)
+        return done.stdout.decode(errors="replace").splitlines()[-1] if done.returncode == 0 else None, count
+    *_, answer, left = programs.run([program, str(REFUSED)], table).stdout.decode(errors="replace").splitlines()
+    return answer, -int(left.split()[1])
 
 
 def count_of(program, row):
-    """How much more the second line allocates, where it does something and nothing was refused; else its answer."""
-    (without, _), (rest, answer) = (allocations_left(program, it) for it in row.tables)
-    is_done = None not in (without, rest) and answer.startswith(("= made", "ok ", "refused 4", "accepted "))
-    return without - rest if is_done else answer
+    """How much more the second line allocates, where it does something; else its answer."""
+    (before, without), (answer, count) = (run_of(program, it) for it in row.tables)
+    is_done = before and answer and answer.startswith(("= made", "ok ", "refused 4", "accepted "))
+    return count - without if is_done else answer
 
 
 def seconds_of(program, table):
@@ -87,11 +88,12 @@ def seconds_of(program, table):
 
 def run(report, words):
     text = read_text(f"{WORKED}/allocations")
-    program, rows = failing_program(), list(rows_of(GROWS.sub("", text)))
-    with ThreadPoolExecutor(programs.JOBS) as pool:
-        for row, count in zip(rows, pool.map(lambda it: count_of(program, it), rows)):
-            report.expect(row.title, count, row.count)
-            report.count("operations")
+    program = programs.path("worked")
+    if not can_refuse(report, program):
+        return
+    for row, count in programs.each(lambda it: count_of(program, it), rows_of(GROWS.sub("", text))):
+        report.expect(row.title, count, row.count)
+        report.count("operations")
     for small, large, lines in GROWS.findall(text):
         table = "table x\nquiet\n" + lines.replace("; ", "\n") + "\n"
         is_well = programs.is_in_proportion(lambda size: seconds_of(program, filled(table, size)), int(small), int(large))

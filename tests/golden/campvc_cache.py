@@ -238,7 +238,7 @@ def server_of(folder):
 
 def wait_for_server(report, folder, how):
     """Asks until a server is there."""
-    end = time.monotonic() + programs.TIMEOUT / 10
+    end = time.monotonic() + programs.TIMEOUT
     while not (process := server_of(folder)) and time.monotonic() < end:
         call(folder, "anna", "rm -f .camp/cache.db; campvc status", **how)
         time.sleep(0.2)
@@ -261,7 +261,7 @@ def interrupted(report, folder, how):
 
 def ends(process):
     """Whether a process ends in a while."""
-    end = time.monotonic() + programs.TIMEOUT / 10
+    end = time.monotonic() + programs.TIMEOUT
     while os.path.exists(f"/proc/{process}") and time.monotonic() < end:
         time.sleep(0.1)
     return not os.path.exists(f"/proc/{process}")

@@ -181,8 +181,9 @@ def busy(report, folder, how):
     """A second terminal: a command waits for another one in the folder, then says which process that is, and has changed nothing."""
     call(folder, "anna", "echo more >>f", **how)
     with programs.start(["campvc", "record", "-i", "-m", "More"], cwd=f"{folder}/anna", env=environment(folder, **how)) as process:
-        while b"record this change" not in process.stdout.read1():
-            pass
+        asked = b""
+        while b"record this change" not in asked and (more := process.stdout.read1()):
+            asked += more
         done = call(folder, "anna", "campvc record -m 'Also more'", **how, CAMPVC_PATIENCE="0.2")
         words = f"campvc: another campvc (process {process.pid}) is at work in this folder: wait until it ends, and try again\n"
         report.expect("a record beside another one", (done.stdout.decode(), done.returncode), (words, 128))

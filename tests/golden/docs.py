@@ -22,6 +22,7 @@ import tempfile
 
 from tests.harness import programs
 from tests.harness.paths import TOP, read_text
+from tests.harness.terminal import is_match
 
 SECONDS, GATE = 20, "after camp camp_shell"
 BLOCK = re.compile(r"^```(console|camp)( new)?\n(.*?)^```$", re.M | re.S)
@@ -31,33 +32,15 @@ MARK = "== end of command "
 
 def commands_of(block):
     """The commands of a console block, each with the lines that it writes."""
-    found, lines = [], block.splitlines()
-    while lines:
-        line = lines.pop(0)
-        if not line.startswith("$ "):
-            if not found:
-                raise ValueError(f"output before the first command: {line}")
-            found[-1][1].append(line)
-            continue
-        command = line[2:]
-        while command.endswith("\\") and lines:
+    before, *parts = re.split(r"^\$ ", block, flags=re.M)
+    assert not before, f"output before the first command: {before}"
+    for part in parts:
+        command, *lines = part.splitlines()
+        while command.endswith("\\"):
             command += "\n" + lines.pop(0)
         word = re.search(r"<<-?'?(\w+)'?", command)
-        while word and lines:
-            command += "\n" + lines[0]
-            if lines.pop(0) == word[1]:
-                break
-        found.append((command, []))
-    return found
-
-
-def is_match(wanted, lines):
-    """Whether lines are those that are wanted, where `...` stands for any lines."""
-    if not wanted:
-        return not lines
-    if wanted[0] == "...":
-        return any(is_match(wanted[1:], lines[at:]) for at in range(len(lines) + 1))
-    return bool(lines) and lines[0] == wanted[0] and is_match(wanted[1:], lines[1:])
+        end = lines.index(word[1]) + 1 if word else 0
+        yield "\n".join([command, *lines[:end]]), lines[end:]
 
 
 def run_console(commands, path):

@@ -4,14 +4,14 @@ Words: examples, conversations, loads, lines, options, terminals name parts; non
 """
 
 import os
-import pty
 import re
 import tempfile
 
-from tests.harness import golden, programs
+from tests.harness import golden, programs, sessions
 from tests.harness.conversation import ask
-from tests.harness.paths import DATA, EXAMPLES, TOP, read, read_text, write
+from tests.harness.paths import DATA, EXAMPLES, TOP, read, write
 from tests.harness.store import oks
+from tests.harness.terminal import Terminal
 
 SECONDS, GATE = 10, "after camp_shell"
 
@@ -53,31 +53,14 @@ def options(shell):
 
 def terminals(shell):
     """Prompts ask for the lines where both ends are terminals, and nowhere else."""
-    asked, answer = b"names main\n", b"names 0\n"
-    for is_typed, is_shown in ((True, False), (False, True), (True, True)):
-        terminal, end = pty.openpty()
-        peer = programs.start([shell.program], **({"stdin": end} if is_typed else {}), **({"stdout": end} if is_shown else {}))
-        os.close(end)
-        if is_typed:
-            # The last byte ends the input, as Ctrl-D does.
-            os.write(terminal, asked + b"\4")
-        printed, error = peer.communicate(None if is_typed else asked, timeout=programs.TIMEOUT)
-        shown = shown_by(terminal) if is_shown else printed
-        what = f"a terminal as input: {is_typed}, as output: {is_shown}"
-        shell.report.expect(what, (b"camp> " in shown, shown.count(answer), error, peer.returncode), (is_typed and is_shown, 1, b"", 0))
-        os.close(terminal)
+    for command, is_asked in (('"$SHELL_PROGRAM"', True), ('"$SHELL_PROGRAM" | cat', False), ('echo names main | "$SHELL_PROGRAM"', False)):
+        terminal = Terminal(f"set -o pipefail; {command}; echo status $?", {**os.environ, "SHELL_PROGRAM": shell.program}, TOP)
+        # The last byte ends the input, as Ctrl-D does.
+        os.write(terminal.end, b"names main\n\4")
+        shown = terminal.read_until(lambda shown: False)
+        terminal.close()
+        shell.report.expect(command, (b"camp> " in shown, shown.count(b"names 0\r\n"), shown[-10:]), (is_asked, 1, b"status 0\r\n"))
         shell.report.count("terminals")
-
-
-def shown_by(terminal):
-    """What a terminal still shows after its program has ended, with plain ends of lines."""
-    shown = b""
-    while True:
-        try:
-            more = os.read(terminal, 65536)
-        except OSError:
-            return shown.replace(b"\r\n", b"\n")
-        shown += more
 
 
 def examples(shell):
@@ -148,13 +131,8 @@ def pasted_side(shell, count):
 
 
 def loads(shell):
-    """The cases of tests/data/loads: files, a command line, and what it writes. The file's head tells their form."""
-    for block in re.split(r"\n\n+", read_text(f"{DATA}/loads").strip("\n")):
-        lines = [line for line in block.split("\n") if not line.startswith("#")]
-        if any(line.startswith("run") for line in lines):
-            with tempfile.TemporaryDirectory(prefix="loads-") as folder:
-                load(shell, lines, folder)
-            shell.report.count("loads")
+    """The cases of tests/data/loads: files, a command line, and what it writes."""
+    sessions.play_all(shell.report, shell.program, "loads", "loads")
     long_load(shell, programs.many(shell.program, 70_000))
 
 
@@ -170,28 +148,6 @@ def long_load(shell, count):
     shell.report.count("calls that are loaded", count)
 
 
-def load(shell, lines, folder):
-    """Makes the files of a case, runs it and compares."""
-    after = lambda sign: "".join(it[1:] + "\n" for it in lines if it.startswith(sign)).replace("\\c\n", "").encode()
-    words, status, file, is_open = [], 0, None, False
-    for line in lines:
-        first, *rest = line.split() or [""]
-        if line.startswith("|"):
-            with open(file, "a", encoding="utf-8") as made:
-                made.write(("\n" if is_open and made.tell() else "") + line[1:] + ("" if is_open else "\n"))
-        elif first == "file":
-            file, is_open = f"{folder}/{rest[0]}", line.endswith(" open")
-            open(file, "w", encoding="utf-8").close()
-        elif first == "folder":
-            os.mkdir(f"{folder}/{rest[0]}")
-        elif first == "run":
-            words = rest
-        elif first == "status":
-            status = int(rest[0])
-    done = programs.run([shell.program, *words], after("<"), cwd=folder)
-    shell.report.expect_run(" ".join(words) or "no word", done, after(">"), after("!"), status)
-
-
 def lines(shell):
     """The conversations of tests/data/long_lines: those of one line with another one after it, and without LF."""
     for title, _, commands, answers in golden.cases("long_lines"):
@@ -205,6 +161,8 @@ def lines(shell):
 
 def endless_line(shell):
     """A line that does not end, in an address space without room for it."""
+    if not programs.is_plain(shell.program):
+        return shell.report.skip("address spaces: the program was built without proofs, and its checks want terabytes of them")
     words = programs.limited(["sh", "-c", 'head -c 400000000 /dev/zero | "$0"', shell.program], v=65536)
     shell.report.expect_run("a line of 400 MB", programs.run(words), b"fault 1 unknown command\n")
     shell.report.count("long conversations")

@@ -32,3 +32,18 @@ def responses(text):
         whole = response(lambda first=iter([first]): next(first, None) or next(lines))
         found.append((whole[0].split(), whole[1:]))
     return found
+
+
+def commands_of(text):
+    """The commands of a conversation, with their bodies."""
+    found, end = [], None
+    for line in text.splitlines(keepends=True):
+        words = line.split()
+        if end:
+            found[-1] += line
+            end = None if words[:1] == [end] else end
+            continue
+        found.append(line)
+        if words[:1] in ([b"record"], [b"whatif"]):
+            end = b"end" if b"edit" in words else b"done" if b"group" in words else None
+    return found

@@ -34,7 +34,7 @@ def server():
         if as_nobody:
             os.chown(folder, NOBODY, NOBODY)
         how = {"cwd": folder, "check": True, "stdin": subprocess.DEVNULL, "stdout": subprocess.DEVNULL}
-        control = [*as_nobody, f"{binaries()}/pg_ctl", "-D", f"{folder}/data", "-w", "-t", "120"]
+        control = [*as_nobody, f"{binaries()}/pg_ctl", "-D", f"{folder}/data", "-w", "-t", str(programs.TIMEOUT)]
         subprocess.run([*as_nobody, f"{binaries()}/initdb", "-D", f"{folder}/data", "-A", "trust", "-U", "camp"], **how)
         subprocess.run([*control, "-l", f"{folder}/log", "-o", f"-k {folder} -c listen_addresses=''", "start"], **how)
         try:

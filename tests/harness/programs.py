@@ -1,11 +1,13 @@
 """Starts programs: which file is run, with what limits, and how a peer talks to it."""
 
+import collections
 import contextlib
 import math
 import os
 import resource
 import signal
 import subprocess
+from concurrent.futures import ThreadPoolExecutor
 
 from tests.harness import unproved
 from tests.harness.paths import TOP
@@ -38,6 +40,19 @@ def run(words, given=b"", **how):
     """Runs a program over bytes, and returns its output, standard error and status."""
     how = {"stdout": subprocess.PIPE, "stderr": subprocess.PIPE, "timeout": TIMEOUT, **how}
     return subprocess.run(words, **({} if "stdin" in how else {"input": given}), **how)
+
+
+def each(function, things):
+    """Yields each thing with what a function makes of it, in order, made as many at once as there are processors. Only a few are made ahead,
+    so the things may be endless."""
+    with ThreadPoolExecutor(JOBS) as pool:
+        ahead = collections.deque()
+        for thing in things:
+            ahead.append((thing, pool.submit(function, thing)))
+            if len(ahead) > 2 * JOBS:
+                first, made = ahead.popleft()
+                yield first, made.result()
+        yield from ((thing, made.result()) for thing, made in ahead)
 
 
 def start(words, **how):

@@ -1,6 +1,7 @@
 """What a test found: how many things of each kind it tried, what is wrong, and what was skipped."""
 
 import difflib
+import os
 import threading
 import time
 
@@ -52,7 +53,9 @@ class Report:
         is_empty = needs_counts and not self.skips and not sum(self.counts.values())
         told = [f"{number} {what}" for what, number in self.counts.items()] or ["nothing was tried"] * is_empty
         told += [f"skipped: {it}" for it in self.skips] + [f"{len(self.failures)} wrong"]
-        print(f"{self.name}: {', '.join(told)} ({time.time() - self.started:.0f} s)", flush=True)
+        # Of this process and of all that it has waited for.
+        used = sum(os.times()[:4])
+        print(f"{self.name}: {', '.join(told)} ({time.time() - self.started:.0f} s, {used:.0f} s of a processor)", flush=True)
         return 1 if self.failures or is_empty else 0
 
 

@@ -1,5 +1,5 @@
 """Stops a program at each of its system calls, as a debugger does: the call can be failed or cut short, or the program killed
-there. For x86-64 Linux."""
+there. For Linux on x86-64."""
 
 import ctypes
 import os
@@ -7,13 +7,15 @@ import platform
 import signal
 import struct
 
-TRACEME, GETREGS, SETREGS, SYSCALL, SETOPTIONS = 0, 12, 13, 24, 0x4200
+TRACEME, SET_REGISTER, SYSCALL, SET_OPTIONS, GET_CALL = 0, 6, 24, 0x4200, 0x420E
 # Stops at system calls have a bit of their own in the signal; and what is traced ends with this process.
 MARK_SYSTEM_CALLS, KILL_WITH_TRACER = 1, 0x100000
 AT_CALL = signal.SIGTRAP | 0x80
-# Where the registers stand among the 27.
-R10, RAX, RDX, RSI, RDI, NUMBER = 7, 10, 12, 13, 14, 15
+# What the system tells of a call: 24 bytes of no interest here, then its number and six arguments, or at its end its result.
+CALL = struct.Struct("24x7Q")
 NAMES = {1: "write", 18: "pwrite", 74: "fsync", 75: "fdatasync", 77: "ftruncate", 87: "unlink"}
+# Where registers stand: the result of a call, the size of a write, and the number of a call that begins.
+RAX, RDX, NUMBER = 10 * 8, 12 * 8, 15 * 8
 
 LIBC = ctypes.CDLL(None, use_errno=True)
 LIBC.ptrace.restype = ctypes.c_long
@@ -21,34 +23,18 @@ LIBC.ptrace.argtypes = [ctypes.c_long, ctypes.c_long, ctypes.c_void_p, ctypes.c_
 
 
 class Call:
-    """A system call: its name (None: of no interest here), its file, and what it writes at which offset."""
+    """A system call: its name (None: of no interest here), its file, what it writes at which offset, and so many bytes of that."""
 
-    def __init__(self, name, file=None, at=None, data=None):
-        self.name, self.file, self.at, self.data = name, file, at, data
+    def __init__(self, name, file=None, at=None, data=None, size=0):
+        self.name, self.file, self.at, self.data, self.size = name, file, at, data, size
 
     def __repr__(self):
         return f"{self.name} {self.file} at {self.at}: {self.data}"
 
 
-def ptrace(request, pid, data=0):
-    if LIBC.ptrace(request, pid, 0, data) < 0:
+def ptrace(request, pid, where=0, data=0):
+    if LIBC.ptrace(request, pid, where, data) < 0:
         raise OSError(ctypes.get_errno(), "ptrace")
-
-
-def registers(pid):
-    buffer = ctypes.create_string_buffer(27 * 8)
-    ptrace(GETREGS, pid, ctypes.addressof(buffer))
-    return list(struct.unpack("27Q", buffer.raw))
-
-
-def set_registers(pid, values):
-    buffer = ctypes.create_string_buffer(struct.pack("27Q", *values))
-    ptrace(SETREGS, pid, ctypes.addressof(buffer))
-
-
-def exit_code(status):
-    """The exit status, or a signal below zero."""
-    return -os.WTERMSIG(status) if os.WIFSIGNALED(status) else os.WEXITSTATUS(status)
 
 
 def can_trace():
@@ -115,75 +101,77 @@ def content(memory_file):
 
 
 def follow(pid, input_left, at_call):
-    calls, number, inside = [], 0, None
+    """Lets the program run to its end. After each answer the next command is sent."""
+    calls, number = [], 0
     os.waitpid(pid, 0)
-    ptrace(SETOPTIONS, pid, MARK_SYSTEM_CALLS | KILL_WITH_TRACER)
+    ptrace(SET_OPTIONS, pid, 0, MARK_SYSTEM_CALLS | KILL_WITH_TRACER)
+    while (status := next_stop(pid)) is None:
+        call = call_of(pid)
+        decision = at_call(number, call)
+        number += 1
+        if decision == "kill":
+            os.kill(pid, signal.SIGKILL)
+            return exit_code(os.waitpid(pid, 0)[1]), calls
+        begin(pid, call, decision)
+        status = next_stop(pid)
+        if status is not None:
+            break
+        result = end(pid, call, decision)
+        if call.name and result < 2**63:
+            call.data = call.data and call.data[:result]
+            calls.append(call)
+            if (call.name, call.file) == ("write", "out"):
+                input_left.send_next()
+    return status, calls
+
+
+def next_stop(pid):
+    """Lets the program run until a system call begins or ends; its status where it has ended itself."""
     while True:
         ptrace(SYSCALL, pid)
         _, status = os.waitpid(pid, 0)
         if not os.WIFSTOPPED(status):
-            return exit_code(status), calls
-        if os.WSTOPSIG(status) != AT_CALL:
-            continue
-        if inside is None:
-            call = call_of(pid)
-            decision = at_call(number, call)
-            number += 1
-            if decision == "kill":
-                os.kill(pid, signal.SIGKILL)
-                _, status = os.waitpid(pid, 0)
-                return exit_code(status), calls
-            inside = (call, decision, change(pid, decision))
-            continue
-        (call, decision, size), inside = inside, None
-        if decision is not None:
-            restore(pid, decision, size)
-        if decision is None or decision[0] != "fail":
-            finished(pid, call, calls, input_left)
+            return exit_code(status)
+        if os.WSTOPSIG(status) == AT_CALL:
+            return None
 
 
-def finished(pid, call, calls, input_left):
-    """Notes a call that succeeded; after an answer the next command is sent."""
-    result = registers(pid)[RAX]
-    if call.name is None or result >= 2**63:
-        return
-    if call.data is not None:
-        call.data = call.data[:result]
-    calls.append(call)
-    if call.name == "write" and call.file == "out":
-        input_left.send_next()
+def exit_code(status):
+    """The exit status, or a signal below zero."""
+    return -os.WTERMSIG(status) if os.WIFSIGNALED(status) else os.WEXITSTATUS(status)
 
 
-def change(pid, decision):
-    """Replaces a call that is to fail by one that does not exist, and cuts a write. Returns its size."""
-    if decision is None:
-        return None
-    values = registers(pid)
-    size = values[RDX]
-    if decision[0] == "fail":
-        values[NUMBER] = 2**64 - 1
-    else:
-        values[RDX] = min(size, decision[1])
-    set_registers(pid, values)
-    return size
+def begin(pid, call, decision):
+    """Puts a call that does not exist in place of one that is to fail, and cuts a write."""
+    if decision and decision[0] == "fail":
+        ptrace(SET_REGISTER, pid, NUMBER, 2**64 - 1)
+    elif decision:
+        ptrace(SET_REGISTER, pid, RDX, min(call.size, decision[1]))
 
 
-def restore(pid, decision, size):
-    """After a call that was changed the program finds its registers as the system leaves them, but for the result."""
-    values = registers(pid)
-    values[RDX] = size
-    if decision[0] == "fail":
-        values[RAX] = 2**64 - decision[1]
-    set_registers(pid, values)
+def end(pid, call, decision):
+    """The result of a call, above 2^63 where it has failed. The program finds the size of a write as it was."""
+    if decision and decision[0] == "fail":
+        ptrace(SET_REGISTER, pid, RAX, 2**64 - decision[1])
+    elif decision:
+        ptrace(SET_REGISTER, pid, RDX, call.size)
+    return told(pid)[0]
+
+
+def told(pid):
+    """The number of a call that begins, and its arguments; or the result of one that ends."""
+    buffer = ctypes.create_string_buffer(CALL.size)
+    ptrace(GET_CALL, pid, CALL.size, ctypes.addressof(buffer))
+    return CALL.unpack(buffer.raw)
 
 
 def call_of(pid):
-    values = registers(pid)
-    name = NAMES.get(values[NUMBER])
+    number, first, place, size, offset, _, _ = told(pid)
+    name = NAMES.get(number)
     if name in (None, "unlink"):
         return Call(name)
     try:
-        file = os.readlink(f"/proc/{pid}/fd/{values[RDI]}")
+        file = os.readlink(f"/proc/{pid}/fd/{first}")
     except OSError:
         file = ""
     if file.startswith("/memfd:"):
@@ -191,6 +179,6 @@ def call_of(pid):
     data = None
     if name in ("write", "pwrite"):
         with open(f"/proc/{pid}/mem", "rb", buffering=0) as memory:
-            memory.seek(values[RSI])
-            data = memory.read(values[RDX])
-    return Call(name, file, values[R10] if name == "pwrite" else None, data)
+            memory.seek(place)
+            data = memory.read(size)
+    return Call(name, file, offset if name == "pwrite" else None, data, size)

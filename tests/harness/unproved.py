@@ -19,25 +19,25 @@ import sys
 import tempfile
 import time
 
+from tests.harness.crates import lay_out
 from tests.harness.folders import temporary
-from tests.harness.paths import TOP, read, read_text, write_text
+from tests.harness.paths import TOP, read, read_text, write, write_text
 
 FOLDER = f"{TOP}/out/unproved"
 # Seconds between two looks at the folder, and of two looks at the processes of `rt try` one each so many.
 PAUSE, LOOKS = 0.02, 50
-# What keeps a program running for two seconds, unless one of its crate does: commands that its input repeats; or where an allocation
-# fails, a comment that is read in pieces.
+# Seconds after which a program counts as hanging: beside proofs it gets little of a processor.
+TIMEOUT = 7200
+# What keeps a program running for two seconds, unless one of its crate does: commands that its input repeats.
 ASKED = {"camp_shell": b"tree main\n" * 3_000, "camp": b"tree main\n" * 3_000, "worked": b"table busy\n" + b"repeat 500 0 names main\n" * 20,
          "worked_talks": b"ends talk: 4000000000 99 4000000000 99 0\n" + b"tree main\n" * 3_000}
-ASKED_WITH_FAULT = {**ASKED, "camp_shell": b"#" * 4_000_000 + b"\n"}
 # The last line of `rt try` where the program ran.
 RAN = re.compile(rb"^(?:run=(?!none)|calls=).*proved=no$", re.M)
 
 
-def program(crate, fail_alloc=None, tell=None):
-    """The unproved program of a crate of this repository; with `fail_alloc` its allocation of that number fails."""
-    name, words = (f"{crate}-fail-alloc-{fail_alloc}", ["--fail-alloc", str(fail_alloc)]) if fail_alloc else (crate, [])
-    return once(name, lambda path: build(f"{TOP}/crates/{crate}", path, words, tell))
+def program(crate, tell=None):
+    """The unproved program of a crate of this repository."""
+    return once(crate, lambda path: build(f"{TOP}/crates/{crate}", path, tell=tell))
 
 
 def once(name, make, sources=()):
@@ -49,6 +49,18 @@ def once(name, make, sources=()):
         if not is_newer(path, sources):
             make(path)
     return path
+
+
+def of_page(name, page, given, words=()):
+    """The unproved program of the crate that a page shows. What it is given keeps it running while it is built."""
+
+    def make(path):
+        with temporary("page-") as folder:
+            crate, _ = lay_out(page, folder)
+            write(f"{folder}/crates/{crate}/stdin", given)
+            build(f"{folder}/crates/{crate}", path, words)
+
+    return once(name, make, [page])
 
 
 def is_newer(path, more=()):
@@ -64,7 +76,7 @@ def build(crate, path, words=(), tell=None):
     if not shutil.which("rt"):
         sys.exit("the kit's command rt is not on the PATH: see README.md")
     name = os.path.basename(crate)
-    busy = (ASKED_WITH_FAULT if words else ASKED).get(name) or read(f"{crate}/stdin")
+    busy = ASKED.get(name) or read(f"{crate}/stdin")
     new, started = path + ".new", time.time()
     with contextlib.suppress(FileNotFoundError):
         os.remove(new)
@@ -86,7 +98,7 @@ def try_crate(crate, words=(), given=b"", folder=None, link=None, tell=None):
         source.write(given)
         source.seek(0)
         how = {"stdin": source, "stdout": out, "stderr": error, "cwd": crate, "start_new_session": True}
-        tried = subprocess.Popen(["rt", "try", "--seconds", "600", *words], env={**os.environ, "TMPDIR": folder or tempfile.gettempdir()}, **how)
+        tried = subprocess.Popen(["rt", "try", "--seconds", str(TIMEOUT), *words], env={**os.environ, "TMPDIR": folder or tempfile.gettempdir()}, **how)
         try:
             while tried.poll() is None:
                 time.sleep(PAUSE)

@@ -1,12 +1,6 @@
-"""The tables of crates/worked and crates/worked_talks, and the program of the first with an allocation that fails."""
+"""The tables of crates/worked and crates/worked_talks."""
 
-import os
-
-from tests.harness import unproved
 from tests.harness.paths import TOP, read
-
-# The number of the allocation that fails.
-REFUSED = 4_000
 
 
 def tables(name, crate="worked"):
@@ -18,7 +12,3 @@ def tables(name, crate="worked"):
         if table:
             found[table] = found.get(table, b"") + line
     return found
-
-
-def failing_program():
-    return os.environ.get("WORKED_FAILING") or unproved.program("worked", fail_alloc=REFUSED)

@@ -17,7 +17,6 @@ import re
 import shutil
 import subprocess
 from collections import Counter
-from concurrent.futures import ThreadPoolExecutor
 
 from tests.harness import programs
 from tests.harness.checks import check_in_place, words_over
@@ -45,9 +44,8 @@ def run(report, words):
     crates = {name: [it for it in mutants_of(f"{TOP}/crates/{name}", not tree) if it[0].startswith(tuple(begins))]
               for name, begins in (wanted or {it: [""] for it in uses_of()}).items()}
     crates = {name: some for name, some in crates.items() if some}
-    with ThreadPoolExecutor(programs.JOBS) as pool:
-        names = sorted(crates, key=lambda it: -len(crates[it]))
-        list(pool.map(lambda name: try_crate(report, name, crates[name], tree), names))
+    for _ in programs.each(lambda name: try_crate(report, name, crates[name], tree), sorted(crates, key=lambda it: -len(crates[it]))):
+        report.count("crates")
 
 
 def try_crate(report, name, mutants, tree):

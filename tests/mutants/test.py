@@ -15,27 +15,27 @@ import re
 import subprocess
 import sys
 import time
-from concurrent.futures import ThreadPoolExecutor
 
+from tests.golden.allocations import REFUSED
 from tests.harness import programs, unproved
 from tests.harness.folders import temporary
 from tests.harness.paths import TOP, WORKED, read_text, write_text
 from tests.harness.scripts import table_scripts
-from tests.harness.worked import REFUSED, tables
+from tests.harness.worked import tables
 
 SECONDS, GATE = 600, "never"
 FN = re.compile(r"^( *)(?:pub(?:\([a-z]+\))? )?fn (\w+)", re.M)
 # The copy's switch: the mutant is on whose number is that of an open file.
 FIRST = 300
 SWITCH = "//! Which mutant is on.\n\npub fn is_on(mutant: i32) -> bool {\n    libc::lseek(FIRST + mutant, 0, 1) >= 0\n}\n\nconst FIRST: i32 = 300;\n"
-# A kind of test: its name, the crate of its program, the variable that names it, and how it is built.
+# A kind of test: its name, the crate of its program, and how that is built.
 GOLDEN = {
-    "examples": ("golden/camp", "camp", "CAMP", []),
-    "shell": ("golden/shell", "camp_shell", "CAMP_SHELL", []),
-    "store": ("golden/store", "camp_shell", "CAMP_SHELL", []),
-    "pieces": ("golden/pieces", "camp_shell", "CAMP_SHELL", []),
-    "strangers": ("faults/strangers", "camp_shell", "CAMP_SHELL", []),
-    "allocations": ("golden/allocations", "worked", "WORKED_FAILING", ["--fail-alloc", str(REFUSED)]),
+    "examples": ("golden/camp", "camp", []),
+    "shell": ("golden/shell", "camp_shell", []),
+    "store": ("golden/store", "camp_shell", []),
+    "pieces": ("golden/pieces", "camp_shell", []),
+    "strangers": ("faults/strangers", "camp_shell", []),
+    "allocations": ("golden/allocations", "worked", ["--fail-alloc", str(REFUSED)]),
 }
 # What takes so many seconds of a processor has noticed something as well; beside other work it may take so many times longer.
 LIMIT, PATIENCE = 120, 20
@@ -77,11 +77,10 @@ def run(report, words):
             if some:
                 program = f"{folder}/{crate}"
                 unproved.build(f"{folder}/crates/{crate}", program)
-                with ThreadPoolExecutor(programs.JOBS) as pool:
-                    noticed.update((find if is_find else notice)(report, pool, program, some, tables_of_it))
-        left, built = [it for it in mutants if it not in noticed and it.test not in known], {}
+                noticed.update((find if is_find else notice)(report, program, some, tables_of_it))
+        left = [it for it in mutants if it not in noticed and it.test not in known]
         for kind in GOLDEN:
-            noticed.update(by_program(report, folder, kind, [it for it in left if it.test.split()[0] == kind], built))
+            noticed.update(by_program(report, folder, kind, [it for it in left if it.test.split()[0] == kind]))
     for it in mutants:
         report.count("test mutants")
         if is_find:
@@ -155,7 +154,7 @@ def answers(program, table, number=0):
         return b"", None
 
 
-def notice(report, pool, program, mutants, known):
+def notice(report, program, mutants, known):
     """The mutants that their tables notice, those of quick tables first."""
     noticed, seconds = {}, {}
     for name in {it.test for it in mutants}:
@@ -163,43 +162,39 @@ def notice(report, pool, program, mutants, known):
         report.expect(f"table {name} without a mutant", answers(program, known[name])[1], 0)
         seconds[name] = time.time() - started
     for name in sorted(seconds, key=seconds.get):
-        some = differing(pool, program, [(it, name) for it in mutants if it.test == name], known)
+        some = differing(program, [(it, name) for it in mutants if it.test == name], known)
         report.note(f"table {name}: {len(some)} mutants noticed")
         noticed.update(some)
     return noticed
 
 
-def find(report, pool, program, mutants, known):
+def find(report, program, mutants, known):
     """The mutants that quick tables notice, or slow ones where no quick one does."""
     quick, slow = [], []
     for name in known:
         started = time.time()
         answers(program, known[name])
         (quick if time.time() - started < 1 else slow).append(name)
-    noticed = differing(pool, program, [(it, name) for it in mutants for name in quick], known)
-    return {**noticed, **differing(pool, program, [(it, name) for it in mutants if it not in noticed for name in slow], known)}
+    noticed = differing(program, [(it, name) for it in mutants for name in quick], known)
+    return {**noticed, **differing(program, [(it, name) for it in mutants if it not in noticed for name in slow], known)}
 
 
-def differing(pool, program, pairs, known):
+def differing(program, pairs, known):
     """Of mutants with tables those that answer otherwise: the tables of each mutant."""
     names = sorted({name for _, name in pairs})
-    plain = dict(zip(names, pool.map(lambda it: answers(program, known[it]), names)))
-    differs = pool.map(lambda it: answers(program, known[it[1]], it[0].number) != plain[it[1]], pairs)
-    noticed = {}
-    for (mutant, name), is_other in zip(pairs, differs):
+    plain, noticed = dict(programs.each(lambda it: answers(program, known[it]), names)), {}
+    for (mutant, name), is_other in programs.each(lambda it: answers(program, known[it[1]], it[0].number) != plain[it[1]], pairs):
         if is_other:
             noticed.setdefault(mutant, []).append(name)
     return noticed
 
 
-def by_program(report, folder, kind, mutants, built):
-    """The mutants with which a part of a golden test finds something wrong, where it finds nothing wrong without them. A program
-    that was built for another kind is used again."""
-    _, crate, _, words = GOLDEN[kind]
-    noticed, program = {}, built.get((crate, *words), f"{folder}/{kind}")
-    if mutants and (crate, *words) not in built:
+def by_program(report, folder, kind, mutants):
+    """The mutants with which a part of a golden test finds something wrong, where it finds nothing wrong without them."""
+    _, crate, words = GOLDEN[kind]
+    program, noticed = f"{folder}/{crate}{'-failing' if words else ''}", {}
+    if mutants and not os.path.exists(program):
         unproved.build(f"{folder}/crates/{crate}", program, words)
-        built[(crate, *words)] = program
     for test in sorted({it.test for it in mutants}):
         report.expect(f"{test} without a mutant", is_well(test, program), True)
     for it in mutants:
@@ -214,6 +209,6 @@ def by_program(report, folder, kind, mutants, built):
 def is_well(test, program):
     """Whether the part of a golden test, as `examples limits/calls` or `shell talks`, finds nothing wrong with a program."""
     kind, *part = test.split()
-    name, _, variable, _ = GOLDEN[kind]
+    name, crate, _ = GOLDEN[kind]
     words = [sys.executable, "-m", "tests", name, "--", *({"talks": "conversations"}.get(it, it) for it in part)]
-    return programs.run(words, env={**os.environ, variable: program}, timeout=None).returncode == 0
+    return programs.run(words, env={**os.environ, crate.upper(): program}, timeout=None).returncode == 0
