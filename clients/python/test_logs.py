@@ -265,6 +265,42 @@ class SharedRepository(unittest.TestCase):
         with self.assertRaises(Stopped):
             anna.record("main", "q", [Add("g")])
 
+    def test_what_is_executed_ahead_shows_what_the_log_will_have(self):
+        anna, calls = self.share(), [(b"record main p add f\n", b"mine"), (b"branch b main\n", b""), (b"record b q add g\n", b"more")]
+        self.assertEqual(anna.execute_ahead([call for call, _ in calls[:2]]), [b"ok 1\n", b"ok 2\n"])
+        self.assertEqual((anna.names("b"), anna.accepted, anna.notes, anna.is_ahead, anna.is_settled), (["p"], 0, {}, True, False))
+        self.assertEqual(anna.write_all(calls), [b"ok 1\n", b"ok 2\n", b"ok 3\n"])
+        self.assertEqual((anna.is_ahead, anna.is_settled, anna.accepted, anna.notes), (False, True, 3, {"p": b"mine", "q": b"more"}))
+        self.assertEqual((self.share().history(), anna.names("b")), (anna.history(), ["p", "q"]))
+
+    def test_what_the_log_has_before_is_shown_in_place_of_what_was_ahead(self):
+        anna, ben = self.share(), self.share()
+        anna.record("main", "start", [Add("f"), Edit("f", 1, [], ["a"])], "first")
+        calls = [(b"record main p edit f 1\n-a\n+b\nend\n", b"mine"), (b"branch b main\n", b"")]
+        for others in ([(b"record main q edit f 1\n-a\n+c\nend\n", b"his")], [(b"branch b nowhere\n", b"")]):
+            anna.execute_ahead([call for call, _ in calls])
+            ben.sync()
+            ben.write_all(others)
+            answers = anna.write_all(calls)
+            self.assertEqual((anna.is_settled, anna.history(), anna.tree("main"), anna.notes), (True, *self.shown(self.share())))
+            calls = [(b"record main r add g\n", b"later"), (b"branch c main\n", b"")]
+        self.assertEqual(answers, [b"ok 4\n", b"ok 5\n"])
+
+    @staticmethod
+    def shown(one):
+        return one.history(), one.tree("main"), one.notes
+
+    def test_what_is_refused_ahead_is_not_executed(self):
+        anna = self.share()
+        self.assertEqual(anna.execute_ahead([b"branch b nowhere\n", b"branch c main\n"]), [b"refused 4 nowhere\n"])
+        self.assertEqual((anna.is_settled, anna.branches()), (True, ["main"]))
+
+    def test_what_is_ahead_may_be_executed_here(self):
+        anna = self.share()
+        anna.execute_ahead([b"branch b main\n"])
+        self.assertEqual(anna.execute_here([(b"branch b main\n", b""), (b"branch c b\n", b"")]), [b"ok 1\n", b"ok 2\n"])
+        self.assertEqual((anna.branches(), anna.accepted), (["main", "b", "c"], 2))
+
 
 if __name__ == "__main__":
     unittest.main()

@@ -2,9 +2,9 @@
 
 from __future__ import annotations
 
-import signal
+import _signal
 
-signal.signal(signal.SIGINT, signal.SIG_DFL)  # Until `main` begins Ctrl-C ends this without words: nothing is done yet.
+_signal.signal(_signal.SIGINT, _signal.SIG_DFL)  # Until `main` begins Ctrl-C ends this without words: nothing is done yet.
 
 import os
 import sys

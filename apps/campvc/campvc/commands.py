@@ -6,23 +6,25 @@ import argparse
 import contextlib
 import os
 import shutil
-from typing import Collection, List, Optional, Tuple
+from typing import Collection, List, Optional, Set
 
-from camp import Change, Conflict, Depends, NoMerge, sides
+from camp import Change, Depends, NoMerge, sides
 from camp.changes import command, record_command
-from camp.coding import Files, decode, encode_path, file_changes, file_name
+from camp.coding import encode_path, file_changes, file_name
 from camp.diffs import in_patches
 from camp.notes import Note, patch_name, slug
 from camp.worktree import changed, text
 
 from . import Failure, show
 from .conflicts import check_marks, marked_files, remember_marked
-from .copy import Copy, reading, writing
+from .copy import Copy, pulling, reading, writing
 from .patches import default_author, new_note, select
 from .show import counted, emit
 from .state import State
 
 Words = argparse.Namespace
+# Up to so many patches are asked one by one which files they change.
+FEW = 50
 
 
 def new_copy(folder: bytes, address: str, name: Optional[str], branch: str, must_exist: bool) -> None:
@@ -218,9 +220,9 @@ def switch(words: Words) -> int:
     with writing() as copy:
         own = copy.own_of(copy.branch_of(words.name))
         copy.check_clean("switch")
-        is_new = own not in copy.repository.branches()
-        calls = [(command("branch", own, words.name), b"")] if is_new else []
-        copy.bring(calls, decode(copy.repository.tree(words.name if is_new else own)), words.name)
+        calls = [] if own in copy.repository.branches() else [(command("branch", own, words.name), b"")]
+        copy.foresee(calls)
+        copy.bring(calls, branch=words.name)
         lacks = copy.repository.missing(copy.branch, copy.own)
         more = "; {} of it not here: `campvc sync` takes over".format(counted(len(lacks), "patch")) if lacks else ""
         emit("on branch {}{}".format(copy.branch, more))
@@ -228,10 +230,10 @@ def switch(words: Words) -> int:
 
 
 def take(copy: Copy, branch: str, names: List[str], yes: bool, publish: bool = True) -> int:
-    """Pulls patches and all that they need into this copy; prints them, and the conflicts that this makes."""
-    listed, found = [name for name in copy.repository.missing(branch, copy.own) if name in names], None
+    """Pulls patches, in the order of their branch, and all that they need into this copy; prints them, and the conflicts that this makes."""
+    before, calls, listed = set(sides.open_pairs(copy.repository, copy.own)), pulling(branch, copy.own, names), names
     try:
-        found = after_pull(copy, branch, listed)
+        copy.foresee(calls)
     except (Depends, NoMerge):
         listed = copy.along(branch, copy.own, names)
     more = [name for name in listed if name not in names]
@@ -239,8 +241,11 @@ def take(copy: Copy, branch: str, names: List[str], yes: bool, publish: bool = T
     show.print_names(copy, listed)
     if more and not show.agreed("{} of these come along, since the others need them. Pull all?".format(len(more)), yes):
         raise Failure("nothing is pulled")
-    files, opened = found or after_pull(copy, branch, listed)
-    copy.bring([(command("pull", branch, copy.own, *listed), b"")], files, names=listed if publish else ())
+    if not copy.is_ahead:
+        calls = pulling(branch, copy.own, listed)
+        copy.foresee(calls)
+    copy.bring(calls, changed_by(copy, listed), names=listed if publish else ())
+    opened = [pair for pair in sides.open_pairs(copy.repository, copy.own) if pair not in before]
     new = [(path, pair) for path, pairs in (copy.unresolved() if opened else {}).items() for pair in pairs if pair in opened]
     for path, pair in new:
         emit("conflict in {}: {} and {}".format(text(path), *pair), show.RED)
@@ -249,27 +254,20 @@ def take(copy: Copy, branch: str, names: List[str], yes: bool, publish: bool = T
     return 1 if new else 0
 
 
-def after_pull(copy: Copy, branch: str, names: List[str]) -> Tuple[Files, List[Conflict]]:
-    """Returns the files after a pull, and the conflicts that it makes. Patches that are in conflict on neither side change the files that
-    they name, and no others."""
-    what_if, there = copy.repository.whatif, {name for pair in copy.repository.conflicts(branch) for name in pair}
-    if not there & set(names):
-        changed_paths = {change.path for name in names for change in copy.repository.show(branch, name).changes}
-        paths = {file_name(path) for path in changed_paths}
-        outcome = what_if.pull(branch, copy.own, names, paths=changed_paths | copy.own_tree(list(paths)).keys())
-        if not any(name in pair for pair in [*outcome.conflicts, *outcome.opened, *outcome.resolved] for name in names):
-            others = {path: file for path, file in copy.state.base().items() if path not in paths}
-            return {**others, **decode(outcome.tree)}, outcome.opened
-    outcome = what_if.pull(branch, copy.own, names)
-    return decode(outcome.tree), outcome.opened
+def changed_by(copy: Copy, names: List[str]) -> Optional[Set[bytes]]:
+    """Returns the files that patches changed which were pulled just now; None if these are so many that all files are read sooner."""
+    if len(names) > FEW:
+        return None
+    return {file_name(change.path) for name in names for change in copy.repository.show(copy.own, name).changes}
 
 
 def pull(words: Words) -> int:
     with writing() as copy:
         copy.check_clean("pull")
         missing = copy.repository.missing(copy.branch_of(words.branch), copy.own)
-        names = [copy.name_of(it, words.branch) for it in words.patches] or missing
-        if not set(names) & set(missing):
+        wanted = [it if it in missing else copy.name_of(it, words.branch) for it in words.patches] or missing
+        names = [name for name in missing if name in wanted]
+        if not names:
             emit("nothing to pull: all of it is here")
             return 1
         return take(copy, words.branch, names, words.yes)
@@ -315,7 +313,8 @@ def take_out(words: Words) -> int:
         if keeps_files:
             copy.record(calls)
         else:
-            copy.bring(calls, decode(copy.repository.whatif.obliterate(copy.own, held).tree))
+            copy.foresee(calls)
+            copy.bring(calls)
     return 0
 
 

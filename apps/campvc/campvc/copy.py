@@ -9,7 +9,7 @@ from __future__ import annotations
 import contextlib
 import os
 import signal
-from typing import Dict, Iterator, List, Sequence, Tuple
+from typing import Collection, Dict, Iterator, List, Sequence, Tuple
 
 from camp import Conflict, NoBranch, Refused, sides, worktree
 from camp.cached import CachedAnswers, Stamps, digest
@@ -120,13 +120,19 @@ class Copy(Offline):
                 first = call.split(b"\n")[0].decode()
                 self.warnings.append("the log refuses what waited for it, `{}`: {}".format(first, error_in(answer)))
 
+    def foresee(self, calls: Calls) -> None:
+        """Executes calls here alone, so that questions show what they would do, and raises the first refusal. The log is asked them next."""
+        for answer in self.shared.execute_ahead([call for call, _ in calls]):
+            if not answer.startswith(b"ok"):
+                raise error_in(answer)
+
     def ask_all(self, calls: Calls, names: Sequence[str] = ()) -> Tuple[int, Sequence[str]]:
-        """Executes calls; raises the first refusal. Patches of these names, which the calls bring to the own branch, are published in the same
-        step if the shared branch lacks no others. Returns how many calls were accepted, and which patches are left to publish."""
-        is_at_once = bool(names) and not self.repository.missing(self.own, self.branch)
-        there = set(self.repository.names(self.branch) if is_at_once else names)
-        listed = [name for name in names if name not in there]
-        answers = self.write([*calls, *self._publishing(listed)])
+        """Executes calls, which were foreseen if there are names; raises the first refusal. Patches of these names, which the calls bring to
+        the own branch, are published in the same step if the shared branch lacks no others. Returns how many calls were accepted, and which
+        patches are left to publish."""
+        listed = self.repository.missing(self.own, self.branch) if names else []
+        is_at_once = set(listed) <= set(names)
+        answers = self.write([*calls, *pulling(self.own, self.branch, listed if is_at_once else ())])
         for answer in answers[:len(calls)]:
             if not answer.startswith(b"ok"):
                 raise error_in(answer)
@@ -142,10 +148,7 @@ class Copy(Offline):
         """Pulls patches of the own branch into the shared one. If that is refused, they stay here and a warning says so."""
         listed = self.along(self.own, self.branch, names) if names else []
         if listed:
-            self._warn_of(names, self.write(self._publishing(listed)))
-
-    def _publishing(self, listed: Sequence[str]) -> Calls:
-        return [(command("pull", self.own, self.branch, *listed), b"")] if listed else []
+            self._warn_of(names, self.write(pulling(self.own, self.branch, listed)))
 
     def _warn_of(self, names: Sequence[str], answers: Sequence[bytes]) -> None:
         for answer in answers:
@@ -153,14 +156,15 @@ class Copy(Offline):
                 problem = "{} does not take {}: {}; it stays in this copy"
                 self.warnings.append(problem.format(self.branch, ", ".join(names), error_in(answer)))
 
-    def own_files(self) -> Files:
-        """Returns the files of the own branch; none if it is not made yet."""
-        try:
-            return decode(self.shared.tree(self.own))
-        except NoBranch:
-            return {}
+    def own_files(self, paths: Collection[bytes] | None = None, branch: str = "") -> Files:
+        """Returns the files of the own branch, or of that for another branch; none if it is not made yet. With paths all others are those that
+        the working tree was last brought to."""
+        own = self.own_of(branch or self.branch)
+        if paths is None:
+            return decode(self.shared.tree(own)) if own in self.repository.branches() else {}
+        return {**{path: file for path, file in self.state.base().items() if path not in paths}, **decode(self.own_tree(paths))}
 
-    def own_tree(self, paths: Sequence[bytes]) -> Dict[str, List[bytes]]:
+    def own_tree(self, paths: Collection[bytes]) -> Dict[str, List[bytes]]:
         """Returns some files of the own branch, as a tree of camp."""
         found = {place: self.shared.file(self.own, place) for path in paths for place in places(path)}
         return {place: lines for place, lines in found.items() if lines is not None}
@@ -209,11 +213,11 @@ class Copy(Offline):
             raise Failure("{}: the working tree has changes that are not recorded; `campvc record` them, or take them back, "
                           "and try again:{}".format(what, names))
 
-    def bring(self, calls: Calls, files: Files, branch: str = "", names: Sequence[str] = ()) -> None:
-        """Executes calls after which the own branch has these files, and brings the working tree to them; with a name, that branch is
-        the one to work on from now on. A failure before the calls are accepted leaves the working tree as it was. Patches of `names`,
-        which the calls bring, are published."""
-        update = worktree.Update(self.top, self.state.base(), files)
+    def bring(self, calls: Calls, paths: Collection[bytes] | None = None, branch: str = "", names: Sequence[str] = ()) -> None:
+        """Executes calls that were foreseen and change these files of the own branch, or any if None, and brings the working tree to them; with
+        a branch, that is the one to work on from now on. A failure before the calls are accepted leaves the working tree as it was. Patches
+        of `names`, which the calls bring, are published."""
+        update = worktree.Update(self.top, self.state.base(), self.own_files(paths, branch))
         with uninterrupted():
             self.state.update(doing=UPDATE)
             before = self.shared.accepted
@@ -227,17 +231,13 @@ class Copy(Offline):
                 self.state.update(update.after, doing=NOTHING)
         self.publish(left)
 
-    def record(self, calls: Calls, paths: Sequence[bytes] | None = None, names: Sequence[str] = ()) -> None:
-        """Executes calls that change these files of the own branch, or any if None, and leaves the working tree as it is. Patches of `names`,
-        which the calls record, are published."""
+    def record(self, calls: Calls, paths: Collection[bytes] | None = None, names: Sequence[str] = ()) -> None:
+        """Executes calls as `bring` does, and leaves the working tree as it is."""
+        self.foresee(calls)
         with uninterrupted():
             self.state.update(doing=RECORD)
             _, left = self.ask_all(calls, names)
-            if paths is None:
-                self.state.update(self.own_files(), doing=NOTHING)
-            else:
-                others = {path: file for path, file in self.state.base().items() if path not in paths}
-                self.state.update({**others, **decode(self.own_tree(paths))}, doing=NOTHING)
+            self.state.update(self.own_files(paths), doing=NOTHING)
         self.publish(left)
 
     def keep(self) -> None:
@@ -262,6 +262,11 @@ class Copy(Offline):
     def unresolved(self) -> Dict[bytes, List[Conflict]]:
         """Returns the unresolved conflicts of the own branch, by their files."""
         return sides.by_file(sides.unresolved(self.repository, self.own))
+
+
+def pulling(origin: str, to: str, names: Sequence[str]) -> Calls:
+    """Returns the call that pulls patches, none if there are none."""
+    return [(command("pull", origin, to, *names), b"")] if names else []
 
 
 def error_in(answer: bytes) -> Exception:

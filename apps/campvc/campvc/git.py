@@ -39,7 +39,7 @@ def import_command(words: argparse.Namespace) -> int:
                 copy.ask_all(calls)
                 count += 1
         finally:
-            copy.bring([], copy.own_files())
+            copy.bring([])
             copy.publish(copy.shared.missing(copy.own, copy.branch))
             emit("{} of {} commits came in".format(count, len(commits.notes)))
     return 0

@@ -14,7 +14,8 @@ from camp.worktree import changed, text
 
 from . import Failure
 
-TABLES = """
+# The journal stays, since to make and remove one takes longer than to write it.
+TABLES = """PRAGMA journal_mode = PERSIST;
 CREATE TABLE IF NOT EXISTS settings (key TEXT PRIMARY KEY, value TEXT NOT NULL);
 CREATE TABLE IF NOT EXISTS base (path BLOB PRIMARY KEY, mode TEXT NOT NULL, content BLOB NOT NULL);
 """

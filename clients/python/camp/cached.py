@@ -107,7 +107,7 @@ class CachedAnswers(Questions):
 
     def _respond(self, text: bytes) -> bytes:
         word = text.decode("ascii", "replace").split(None, 1)[0]
-        is_kept = word in KEPT and not (self.stays_loaded and self.of.is_loaded and word in QUICK)
+        is_kept = word in KEPT and not self.of.is_ahead and not (self.stays_loaded and self.of.is_loaded and word in QUICK)
         found = self.cache.get(self.state(), text) if is_kept else None
         if found is None:
             found = self.of.shared.ask(text)

@@ -248,13 +248,21 @@ class SqliteLog:
             del self._local.queue
 
 
+def own_file(path: str) -> sqlite3.Connection:
+    """Opens a SQLite file that one process at a time writes, without Python's transactions. Its journal stays, since to make and remove one
+    takes longer than to write it."""
+    base = sqlite3.connect(path, timeout=10.0, isolation_level=None, check_same_thread=False)
+    base.execute("PRAGMA journal_mode = PERSIST")
+    return base
+
+
 class RememberedLog:
     """A log, and what of it was read before, in a SQLite file. Without an engine it has just that, as it is at first, and appends
     nothing."""
 
     def __init__(self, path: str, engine: Optional[Log] = None):
         self.engine = engine
-        self._base = sqlite3.connect(os.fspath(path), timeout=10.0, isolation_level=None, check_same_thread=False)
+        self._base = own_file(os.fspath(path))
         try:
             self._base.execute("CREATE TABLE IF NOT EXISTS entries (at INTEGER PRIMARY KEY, text BLOB NOT NULL)")
             self._end = self.known()
@@ -265,7 +273,7 @@ class RememberedLog:
 
     def known(self) -> int:
         """How many entries were read before."""
-        return self._base.execute("SELECT count(*) FROM entries").fetchone()[0]
+        return self._base.execute("SELECT coalesce(max(at) + 1, 0) FROM entries").fetchone()[0]
 
     def entry(self, index: int) -> bytes:
         """An entry that was read before; empty where it was not."""

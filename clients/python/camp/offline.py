@@ -10,11 +10,10 @@ is back.
 from __future__ import annotations
 
 import contextlib
-import sqlite3
 from typing import Callable, List, NamedTuple, Optional, Sequence, Tuple
 
 from .errors import OutcomeUnknown
-from .logs import Away, Log, RememberedLog
+from .logs import Away, Log, RememberedLog, own_file
 from .shared import Shared, Stopped
 
 # Calls, each a command and its note.
@@ -47,7 +46,7 @@ class Offline:
         self._known, self._loaded, self._openings = 0, loaded, 0
         # The calls that wait: they are executed behind those of the log.
         self._behind: Calls = []
-        self._base = sqlite3.connect(path, timeout=10.0, isolation_level=None, check_same_thread=False)
+        self._base = own_file(path)
         self._base.execute("CREATE TABLE IF NOT EXISTS waiting (at INTEGER PRIMARY KEY, call BLOB NOT NULL, note BLOB NOT NULL)")
 
     def __enter__(self) -> Offline:
@@ -95,6 +94,11 @@ class Offline:
     def is_loaded(self) -> bool:
         """Whether the repository is loaded."""
         return self._shared is not None
+
+    @property
+    def is_ahead(self) -> bool:
+        """Whether the repository has calls that were not asked of the log yet."""
+        return self._shared is not None and self._shared.is_ahead
 
     def detach(self) -> Optional[Loaded]:
         """Gives the loaded repository away, for another object with this path; None where it has more than the log, or may have."""

@@ -126,6 +126,9 @@ class Member:
         self.answers: Deque[Tuple[Any, bytes, Any]] = collections.deque()
         self.stopped: Optional[Stopped] = None
         self.notes: Dict[str, bytes] = {}
+        # Calls that the repository has and the log does not have yet, each with its answer.
+        self._ahead: Deque[Tuple[bytes, bytes]] = collections.deque()
+        self._title = b""
         # What decides, once the title is read; the requests that were asked before; and those without an answer, by their numbers.
         self._decides: Optional[LogMember] = None
         self._early: List[Tuple[int, bytes, int]] = []
@@ -134,8 +137,13 @@ class Member:
 
     @property
     def is_settled(self) -> bool:
-        """Whether each request has its answer, and the log can be read on."""
-        return not self._waiting and self.stopped is None
+        """Whether each request has its answer, the log can be read on, and the repository has just what was read."""
+        return not self._waiting and self.stopped is None and not self._ahead
+
+    @property
+    def is_ahead(self) -> bool:
+        """Whether the repository has calls that the log does not have yet."""
+        return bool(self._ahead)
 
     def ask(self, call: bytes, at_least: int = 0, request: Any = None, note: bytes = b"") -> None:
         """Asks a call, with its note, or one of the questions `tree`, `conflicts` and `names`; at a history of so many calls at least."""
@@ -209,7 +217,7 @@ class Member:
     def _open(self, title: bytes) -> None:
         try:
             self.repository.begin_again(**limits_of(title))
-            self._decides = LogMember(self.seat, title)
+            self._decides, self._title = LogMember(self.seat, title), title
         except ValueError:
             self._stop("no title of a log of camp")
         self._ask_early()
@@ -217,14 +225,37 @@ class Member:
     def _keep_accepted(self) -> None:
         """Executes the calls that were accepted in the last entry in the repository too, and keeps their notes."""
         assert self._decides
-        texts = [self._decides.call(at) for at in range(self.count, self._decides.accepted)]
-        if not texts:
-            return
-        answers = self.repository.ask(b"".join(texts)).splitlines(keepends=True)
-        assert len(answers) == len(texts)
-        for text, answer in zip(texts, answers):
-            call, note = parted(text)
+        found = [parted(self._decides.call(at)) for at in range(self.count, self._decides.accepted)]
+        answers = self._execute([call for call, _ in found])
+        assert len(answers) == len(found)
+        for (call, note), answer in zip(found, answers):
             self._keep(call, note, answer)
+
+    def _execute(self, calls: List[bytes]) -> List[bytes]:
+        """Executes calls in the repository, without those that were executed ahead. If the first ones are not those, it is made anew before."""
+        done = list(self._ahead)[:len(calls)]
+        if [call for call, _ in done] != calls[:len(done)]:
+            self._make_anew()
+            done = []
+        for _ in done:
+            self._ahead.popleft()
+        left = b"".join(calls[len(done):])
+        return [answer for _, answer in done] + (self.repository.ask(left).splitlines(keepends=True) if left else [])
+
+    def _make_anew(self) -> None:
+        """Makes the repository anew, of the accepted calls of what was read."""
+        assert self._decides
+        self._ahead.clear()
+        self.repository.begin_again(**limits_of(self._title))
+        for at in range(self.count):
+            self.repository.ask(self._decides.call(at))
+
+    def execute_ahead(self, call: bytes) -> bytes:
+        """Executes a call in the repository before the log is asked it, and returns its answer."""
+        answer = self.repository.ask(call)
+        if answer.startswith(b"ok"):
+            self._ahead.append((call, answer))
+        return answer
 
     def _keep(self, call: bytes, note: bytes, answer: bytes) -> None:
         """Counts an accepted call, and keeps its note."""
@@ -235,7 +266,7 @@ class Member:
 
     def execute(self, call: bytes, note: bytes = b"") -> bytes:
         """Executes a call that no log has, and returns its answer."""
-        answer = self.repository.ask(call)
+        answer = b"".join(self._execute([call]))
         self._keep(call, note, answer)
         return answer
 
@@ -325,6 +356,11 @@ class Shared(Calls):
         """Whether it has just what was read of the log, and nothing is under way."""
         return self._member.is_settled
 
+    @property
+    def is_ahead(self) -> bool:
+        """Whether it shows calls that the log does not have yet."""
+        return self._member.is_ahead
+
     def go_on_with(self, log: Log) -> None:
         """Takes another connection to the same log, and a new seat: a process that was forked may go on with the old one."""
         self._log = log
@@ -395,6 +431,17 @@ class Shared(Calls):
         if not self._member.stopped:
             self._member.stopped = Stopped(self._member.index, "calls were executed here alone, before they were")
         return [self._member.execute(call, note) for call, note in calls]
+
+    def execute_ahead(self, calls: Sequence[bytes]) -> List[bytes]:
+        """Executes calls, in canonical form, before the log is asked them, and returns their answers up to the first that is not accepted:
+        questions show what they would do. `write_all` of just these calls comes next; if the log has others before them, only what it
+        has is shown then. What was executed is not taken back: without that this object can only be closed."""
+        answers: List[bytes] = []
+        for call in calls:
+            answers.append(self._member.execute_ahead(call))
+            if not answers[-1].startswith(b"ok"):
+                break
+        return answers
 
     def record(self, branch: str, name: str, changes: Sequence[Change], note: Text = b"") -> int:
         """Records a patch of 1 to 64 changes, with its note."""

@@ -95,16 +95,17 @@ def scan(top: bytes, base: Files, unchanged: Optional[Dict[bytes, Stamp]] = None
     # A file that was changed just now may be changed once more within the resolution of its times.
     latest = time.time_ns() - 3_000_000_000
     for path, entry in _walk(top, ignored, folders):
-        if path not in base and ignored.has(path, False):
+        known = base.get(path)
+        if known is None and ignored.has(path, False):
             continue
-        stamp = _stamp_of(entry) if path in base else ()
-        if stamp and stamps.get(path) == stamp:
-            found[path] = base[path]
+        stamp = _stamp_of(entry) if known else ()
+        if known and stamp and stamps.get(path) == stamp:
+            found[path] = known
             continue
         file = read_file(top, path)
         if file is not None:
             found[path] = file
-        if stamp and file == base[path] and max(stamp[2:4]) < latest:
+        if stamp and file == known and max(stamp[2:4]) < latest:
             stamps[path] = stamp
     return found
 
@@ -125,11 +126,12 @@ def _walk(top: bytes, ignored: Ignored, folders: Set[bytes]) -> Iterator[Tuple[b
     left = [b""]
     while left:
         before = left.pop()
-        with os.scandir(os.path.join(top, before)) as entries:
+        with os.scandir(b"%s/%s" % (top, before)) as entries:
             for entry in entries:
-                path = before + entry.name
-                if entry.name.lower() in RESERVED:
+                name = entry.name
+                if name.lower() in RESERVED:
                     continue
+                path = before + name
                 if not entry.is_dir(follow_symlinks=False):
                     yield path, entry
                 elif path in folders or not ignored.has(path, True):
