@@ -133,6 +133,25 @@ class Sqlite(unittest.TestCase):
             self.log.read(2)
         self.assertEqual(damaged.exception.index, 2)
 
+    def test_a_moved_entry_shows(self):
+        for number in range(6):
+            self.log.append("s/{}".format(number), b"%d" % number)
+        with contextlib.closing(sqlite3.connect(self.path)) as base:
+            for old, new in ((2, -1), (4, 2), (-1, 4)):
+                base.execute("UPDATE entries SET at = ? WHERE at = ?", (new, old))
+            base.commit()
+        self.assertEqual(self.log.read(0), [TITLE, b"0"])
+        for index in (2, 3, 4, 5):
+            self.assertRaises(Damaged, self.log.read, index)
+        self.assertEqual(self.log.read(6), [b"5"])
+
+    def test_entries_of_an_older_table_are_read(self):
+        with contextlib.closing(sqlite3.connect(self.path)) as base:
+            base.executemany("INSERT INTO entries VALUES (?, ?, ?)", [(1, "s/1", b"x" + b"8cdc1683"), (2, "s/2", b"y\n")])
+            base.commit()
+        self.log.append("s/3", b"z")
+        self.assertEqual(self.log.read(0), [TITLE, b"x", b"y\n", b"z"])
+
     def test_a_file_that_is_full_refuses(self):
         self.log._base().execute("PRAGMA max_page_count = 1")
         self.assertIs(self.log.append("s/1", b"x" * 100_000), AppendOutcome.REFUSED)
