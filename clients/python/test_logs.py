@@ -184,6 +184,25 @@ class Sqlite(unittest.TestCase):
             with self.assertRaises(Foreign):
                 RememberedLog(path, another)
 
+    def test_what_was_changed_of_what_was_read_is_read_again(self):
+        path = os.path.join(self.folder.name, "seen.db")
+        entries = [TITLE] + [b"%d" % number for number in range(6)]
+        for number, text in enumerate(entries[1:]):
+            self.log.append("s/%d" % number, text)
+        for change in ("UPDATE entries SET text = x'61' WHERE at = 3", "DELETE FROM entries WHERE at = 2", "UPDATE entries SET text = 'a' WHERE at = 6",
+                       "UPDATE entries SET text = (SELECT text FROM entries WHERE at = 1) WHERE at = 4"):
+            with contextlib.closing(RememberedLog(path, open_log("sqlite:" + self.path))) as log:
+                self.assertEqual((log.fetch(), log.read(0), log.entry(3)), (7, entries, b"2"))
+            with contextlib.closing(sqlite3.connect(path)) as base:
+                base.execute(change)
+                base.commit()
+            with contextlib.closing(RememberedLog(path)) as log:
+                at = len(log.read(0))
+                self.assertEqual(log.read(0), entries[:at])
+                self.assertRaises(Damaged, log.read, at)
+            with contextlib.closing(RememberedLog(path, open_log("sqlite:" + self.path))) as log:
+                self.assertEqual(log.read(0) + log.read(at), entries)
+
 
 class SharedRepository(unittest.TestCase):
     def setUp(self):

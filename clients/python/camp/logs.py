@@ -261,8 +261,8 @@ class SqliteLog:
 
 
 class RememberedLog:
-    """A log, and what of it was read before, in a SQLite file. Without an engine it has just that, as it is at first, and appends
-    nothing."""
+    """A log, and what of it was read before, in a SQLite file, sealed as in a table. What was changed there is forgotten, and read again.
+    Without an engine it has just that, as it is at first, and appends nothing."""
 
     def __init__(self, path: str, engine: Optional[Log] = None):
         self.engine = engine
@@ -280,9 +280,13 @@ class RememberedLog:
         return self._base.execute("SELECT count(*) FROM entries").fetchone()[0]
 
     def entry(self, index: int) -> bytes:
-        """An entry that was read before; empty where it was not."""
+        """An entry that was read before; empty where it was not, or was changed since."""
+        return unsealed(self._stored(index), self._stored(index - 1)) or b""
+
+    def _stored(self, index: int) -> bytes:
+        """What the file has of an entry."""
         found = self._base.execute("SELECT text FROM entries WHERE at = ?", (index,)).fetchone()
-        return found[0] if found else b""
+        return found[0] if found and isinstance(found[0], bytes) else b""
 
     def forget(self, index: int) -> None:
         """Removes the entries from an index on: they will be read again."""
@@ -291,6 +295,9 @@ class RememberedLog:
     def _check(self) -> None:
         """`Foreign` where the engine does not have what was read last."""
         last = self._end - 1
+        while self.engine and last >= 0 and not self.entry(last):
+            self.forget(last)
+            self._end, last = last, last - 1
         if last < 0 or self.engine is None:
             return
         found = self.engine.read(last, 1.0) if self.engine.length() > last else []
@@ -303,15 +310,27 @@ class RememberedLog:
         return self.engine.append(tag, text)
 
     def read(self, index: int, wait: float = 0.0) -> List[bytes]:
-        rows = self._base.execute("SELECT at, text FROM entries WHERE at >= ? ORDER BY at LIMIT 1024", (index,))
-        known = [text for at, text in rows if self.engine or at < self._end]
+        rows = self._base.execute("SELECT at, text FROM entries WHERE at >= ? ORDER BY at LIMIT 1024", (index,)).fetchall()
+        try:
+            known = in_order(index, self._stored(index - 1), [row for row in rows if self.engine or row[0] < self._end])
+        except Damaged:
+            if self.engine is None:
+                raise
+            self.forget(index)
+            known = []
         if known or self.engine is None:
             return known
         found = self.engine.read(index, wait)
-        self._base.execute("BEGIN")
-        self._base.executemany("INSERT OR IGNORE INTO entries VALUES (?, ?)", enumerate(found, index))
-        self._base.execute("COMMIT")
+        self._keep(index, found)
         return found
+
+    def _keep(self, index: int, entries: List[bytes]) -> None:
+        before = self._stored(index - 1)
+        self._base.execute("BEGIN")
+        for at, text in enumerate(entries, index):
+            before = sealed(text, before)
+            self._base.execute("INSERT OR IGNORE INTO entries VALUES (?, ?)", (at, before))
+        self._base.execute("COMMIT")
 
     def fetch(self) -> int:
         """Reads all that the engine has and was not read before, and returns how many entries are known then. `Away` where the engine
