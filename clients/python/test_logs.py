@@ -133,6 +133,25 @@ class Sqlite(unittest.TestCase):
             self.log.read(2)
         self.assertEqual(damaged.exception.index, 2)
 
+    def test_a_moved_entry_shows(self):
+        for number in range(6):
+            self.log.append("s/{}".format(number), b"%d" % number)
+        with contextlib.closing(sqlite3.connect(self.path)) as base:
+            for old, new in ((2, -1), (4, 2), (-1, 4)):
+                base.execute("UPDATE entries SET at = ? WHERE at = ?", (new, old))
+            base.commit()
+        self.assertEqual(self.log.read(0), [TITLE, b"0"])
+        for index in (2, 3, 4, 5):
+            self.assertRaises(Damaged, self.log.read, index)
+        self.assertEqual(self.log.read(6), [b"5"])
+
+    def test_entries_of_an_older_table_are_read(self):
+        with contextlib.closing(sqlite3.connect(self.path)) as base:
+            base.executemany("INSERT INTO entries VALUES (?, ?, ?)", [(1, "s/1", b"x" + b"8cdc1683"), (2, "s/2", b"y\n")])
+            base.commit()
+        self.log.append("s/3", b"z")
+        self.assertEqual(self.log.read(0), [TITLE, b"x", b"y\n", b"z"])
+
     def test_a_file_that_is_full_refuses(self):
         self.log._base().execute("PRAGMA max_page_count = 1")
         self.assertIs(self.log.append("s/1", b"x" * 100_000), AppendOutcome.REFUSED)
@@ -164,6 +183,25 @@ class Sqlite(unittest.TestCase):
         with contextlib.closing(SqliteLog(os.path.join(self.folder.name, "another.db"))) as another:
             with self.assertRaises(Foreign):
                 RememberedLog(path, another)
+
+    def test_what_was_changed_of_what_was_read_is_read_again(self):
+        path = os.path.join(self.folder.name, "seen.db")
+        entries = [TITLE] + [b"%d" % number for number in range(6)]
+        for number, text in enumerate(entries[1:]):
+            self.log.append("s/%d" % number, text)
+        for change in ("UPDATE entries SET text = x'61' WHERE at = 3", "DELETE FROM entries WHERE at = 2", "UPDATE entries SET text = 'a' WHERE at = 6",
+                       "UPDATE entries SET text = (SELECT text FROM entries WHERE at = 1) WHERE at = 4"):
+            with contextlib.closing(RememberedLog(path, open_log("sqlite:" + self.path))) as log:
+                self.assertEqual((log.fetch(), log.read(0), log.entry(3)), (7, entries, b"2"))
+            with contextlib.closing(sqlite3.connect(path)) as base:
+                base.execute(change)
+                base.commit()
+            with contextlib.closing(RememberedLog(path)) as log:
+                at = len(log.read(0))
+                self.assertEqual(log.read(0), entries[:at])
+                self.assertRaises(Damaged, log.read, at)
+            with contextlib.closing(RememberedLog(path, open_log("sqlite:" + self.path))) as log:
+                self.assertEqual(log.read(0) + log.read(at), entries)
 
 
 class SharedRepository(unittest.TestCase):

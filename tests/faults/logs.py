@@ -291,7 +291,9 @@ CHANGES = {
     "an entry of another program": ("UPDATE entries SET text = x'610a' WHERE at = 3", "a foreign entry at entry 3 of the log", 3),
     "a number skipped": ("UPDATE entries SET text = CAST(replace(substr(text, 1, length(text) - 8), ' 3' || char(10), ' 4' || char(10)) AS BLOB) WHERE at = 3",
                          "a foreign entry at entry 3 of the log", 3),
-    "an entry doubled": ("INSERT INTO entries SELECT 6, 'again', text FROM entries WHERE at = 3", None, 7),
+    "an entry doubled": ("INSERT INTO entries SELECT 6, 'again', text FROM entries WHERE at = 3", DAMAGED.format(6), 6),
+    "two entries swapped": ("WITH old AS MATERIALIZED (SELECT * FROM entries) UPDATE entries SET text = (SELECT text FROM old WHERE at = 7 - entries.at) "
+                            "WHERE at IN (3, 4)", DAMAGED.format(3), 3),
     "another version": ("UPDATE entries SET text = x'63616d70206c6f6720320a' WHERE at = 0", "no title of a log of camp at entry 0 of the log", 0),
 }
 

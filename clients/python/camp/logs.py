@@ -20,6 +20,8 @@ from typing import Dict, Iterator, List, Optional, Protocol, Sequence, Tuple
 
 TITLE = b"camp log 1\n"
 TIMEOUT = 0.5
+# The bytes of a checksum in a table.
+SEAL = 8
 # Seconds between two tries to lock a file; the next process to write has no other beside it, and tries more often.
 PAUSE, SHORT_PAUSE = 0.001, 0.0002
 
@@ -113,31 +115,39 @@ class Foreign(Exception):
     """What stands at the address is of another program."""
 
 
-def sealed(text: bytes) -> bytes:
-    """What a table has of an entry: behind its text is a checksum, so that a changed one shows."""
-    return b"%s%08x" % (text, zlib.crc32(text))
+def sealed(text: bytes, before: bytes) -> bytes:
+    """What a table has of an entry: behind its text is a checksum of it and of the last bytes before it in the log, so that one that was
+    changed or moved shows."""
+    return b"%s%08x" % (text, zlib.crc32(before[-SEAL:] + text))
 
 
-def unsealed(stored: bytes) -> Optional[bytes]:
-    """The text of an entry; None if it was changed. What ends a line is one that another program wrote, and is left to the member."""
+def unsealed(stored: bytes, before: bytes) -> Optional[bytes]:
+    """The text of an entry; None if it was changed or moved. What ends a line is one that another program wrote, and is left to the member;
+    older tables have a checksum of the text alone."""
+    text = stored[:-SEAL]
     if stored.endswith(b"\n"):
         return stored
-    text = stored[:-8]
-    return text if stored == sealed(text) else None
+    return text if stored in (sealed(text, before), sealed(text, b"")) else None
 
 
-def in_order(index: int, rows: Sequence[Tuple[int, bytes]]) -> List[bytes]:
-    """The entries of rows, each with its index, from an index on and up to the first that is missing or changed; `Damaged` if that is the
-    first of all."""
+def in_order(index: int, before: bytes, rows: Sequence[Tuple[int, bytes]]) -> List[bytes]:
+    """The entries of rows, each with its index, from an index on and up to the first that is missing, changed or moved; `Damaged` if that is
+    the first of all."""
     entries: List[bytes] = []
     for number, (at, stored) in enumerate(rows, index):
-        text = unsealed(bytes(stored)) if at == number and isinstance(stored, (bytes, memoryview)) else None
+        text = unsealed(bytes(stored), before) if at == number and isinstance(stored, (bytes, memoryview)) else None
         if text is None:
             break
         entries.append(text)
+        before = bytes(stored)
     if rows and not entries:
         raise Damaged(index)
     return entries
+
+
+# The last bytes of an entry in SQLite, and the last entry of all.
+END = "substr(CAST(text AS BLOB), -{})".format(SEAL)
+LAST = "SELECT at, {} FROM entries ORDER BY at DESC LIMIT 1".format(END)
 
 
 class SqliteLog:
@@ -184,7 +194,8 @@ class SqliteLog:
             with base:
                 with self._queue():
                     _patiently(lambda: base.execute("BEGIN IMMEDIATE"), TIMEOUT, SHORT_PAUSE)
-                base.execute("INSERT INTO entries SELECT coalesce(max(at) + 1, 0), ?, ? FROM entries", (tag, sealed(text)))
+                at, before = base.execute(LAST).fetchone() or (-1, b"")
+                base.execute("INSERT INTO entries VALUES (?, ?, ?)", (at + 1, tag, sealed(text, before)))
             return AppendOutcome.APPENDED
         except sqlite3.IntegrityError:
             return AppendOutcome.TAKEN
@@ -233,7 +244,8 @@ class SqliteLog:
         while True:
             rows = self._once("SELECT at, text FROM entries WHERE at >= ? ORDER BY at LIMIT 1024", index)
             if rows or time.monotonic() >= end:
-                return in_order(index, rows)
+                before = self._once("SELECT {} FROM entries WHERE at = ?".format(END), index - 1) if rows else []
+                return in_order(index, before[0][0] if before else b"", rows)
             time.sleep(PAUSE)
 
     def length(self) -> int:
@@ -257,8 +269,8 @@ def own_file(path: str) -> sqlite3.Connection:
 
 
 class RememberedLog:
-    """A log, and what of it was read before, in a SQLite file. Without an engine it has just that, as it is at first, and appends
-    nothing."""
+    """A log, and what of it was read before, in a SQLite file, sealed as in a table. What was changed there is forgotten, and read again.
+    Without an engine it has just that, as it is at first, and appends nothing."""
 
     def __init__(self, path: str, engine: Optional[Log] = None):
         self.engine = engine
@@ -276,9 +288,13 @@ class RememberedLog:
         return self._base.execute("SELECT coalesce(max(at) + 1, 0) FROM entries").fetchone()[0]
 
     def entry(self, index: int) -> bytes:
-        """An entry that was read before; empty where it was not."""
+        """An entry that was read before; empty where it was not, or was changed since."""
+        return unsealed(self._stored(index), self._stored(index - 1)) or b""
+
+    def _stored(self, index: int) -> bytes:
+        """What the file has of an entry."""
         found = self._base.execute("SELECT text FROM entries WHERE at = ?", (index,)).fetchone()
-        return found[0] if found else b""
+        return found[0] if found and isinstance(found[0], bytes) else b""
 
     def forget(self, index: int) -> None:
         """Removes the entries from an index on: they will be read again."""
@@ -287,6 +303,9 @@ class RememberedLog:
     def _check(self) -> None:
         """`Foreign` where the engine does not have what was read last."""
         last = self._end - 1
+        while self.engine and last >= 0 and not self.entry(last):
+            self.forget(last)
+            self._end, last = last, last - 1
         if last < 0 or self.engine is None:
             return
         found = self.engine.read(last, 1.0) if self.engine.length() > last else []
@@ -299,15 +318,27 @@ class RememberedLog:
         return self.engine.append(tag, text)
 
     def read(self, index: int, wait: float = 0.0) -> List[bytes]:
-        rows = self._base.execute("SELECT at, text FROM entries WHERE at >= ? ORDER BY at LIMIT 1024", (index,))
-        known = [text for at, text in rows if self.engine or at < self._end]
+        rows = self._base.execute("SELECT at, text FROM entries WHERE at >= ? ORDER BY at LIMIT 1024", (index,)).fetchall()
+        try:
+            known = in_order(index, self._stored(index - 1), [row for row in rows if self.engine or row[0] < self._end])
+        except Damaged:
+            if self.engine is None:
+                raise
+            self.forget(index)
+            known = []
         if known or self.engine is None:
             return known
         found = self.engine.read(index, wait)
-        self._base.execute("BEGIN")
-        self._base.executemany("INSERT OR IGNORE INTO entries VALUES (?, ?)", enumerate(found, index))
-        self._base.execute("COMMIT")
+        self._keep(index, found)
         return found
+
+    def _keep(self, index: int, entries: List[bytes]) -> None:
+        before = self._stored(index - 1)
+        self._base.execute("BEGIN")
+        for at, text in enumerate(entries, index):
+            before = sealed(text, before)
+            self._base.execute("INSERT OR IGNORE INTO entries VALUES (?, ?)", (at, before))
+        self._base.execute("COMMIT")
 
     def fetch(self) -> int:
         """Reads all that the engine has and was not read before, and returns how many entries are known then. `Away` where the engine

@@ -8,13 +8,16 @@ from typing import List
 import psycopg2
 from psycopg2 import errors
 
-from .logs import TIMEOUT, TITLE, AppendOutcome, Away, Foreign, in_order, sealed, write_title
+from .logs import SEAL, TIMEOUT, TITLE, AppendOutcome, Away, Foreign, in_order, sealed, write_title
 
 # What ends a statement without a change, for certain: the server has said so, and rolled it back.
 REFUSALS = (errors.DiskFull, errors.ProgramLimitExceeded, errors.DataException, errors.ReadOnlySqlTransaction, errors.InsufficientPrivilege)
 TABLE = "CREATE TABLE IF NOT EXISTS {} (at bigint PRIMARY KEY, tag text UNIQUE NOT NULL, entry bytea NOT NULL)"
-# Appends take turns until they are committed, so nobody sees an index whose predecessor may still come.
-APPEND = "INSERT INTO {0} SELECT coalesce(max(at) + 1, 0), %s, %s FROM {0}"
+# The index and the last bytes of the last entry before an index. Appends take turns until they are committed, so nobody sees an index whose
+# predecessor may still come.
+LAST = "SELECT at, substring(entry FROM greatest(octet_length(entry) - {}, 1)) FROM {{}} WHERE at < %s ORDER BY at DESC LIMIT 1".format(SEAL - 1)
+END = (1 << 63) - 1
+APPEND = "INSERT INTO {} VALUES (%s, %s, %s)"
 
 
 class PostgresLog:
@@ -69,7 +72,9 @@ class PostgresLog:
 
     def append(self, tag: str, text: bytes) -> AppendOutcome:
         def work(cursor):
-            self._locked(cursor, APPEND, tag, sealed(text))
+            self._locked(cursor, LAST, END)
+            at, before = cursor.fetchone() or (-1, b"")
+            cursor.execute(APPEND.format(self.table), (at + 1, tag, sealed(text, bytes(before))))
             cursor.execute("SELECT pg_notify(%s, '')", (self.table,))
         try:
             self._transaction(work)
@@ -84,15 +89,17 @@ class PostgresLog:
     def read(self, index: int, wait: float = 0.0) -> List[bytes]:
         end = time.monotonic() + wait
         while True:
-            rows = self._patiently(lambda cursor: self._rows(cursor, index))
+            before, rows = self._patiently(lambda cursor: self._rows(cursor, index))
             if rows or time.monotonic() >= end:
-                return in_order(index, rows)
+                return in_order(index, before, rows)
             self._await(end - time.monotonic())
 
     def _rows(self, cursor, index: int):
         cursor.execute("LISTEN {}".format(self.table))
+        cursor.execute(LAST.format(self.table), (index,))
+        _, before = cursor.fetchone() or (-1, b"")
         cursor.execute("SELECT at, entry FROM {} WHERE at >= %s ORDER BY at LIMIT 1024".format(self.table), (index,))
-        return cursor.fetchall()
+        return bytes(before), cursor.fetchall()
 
     def _await(self, seconds: float) -> None:
         """Waits for a notification, and so many seconds at most."""

@@ -1,22 +1,35 @@
 //! Checksums of entries, which stand in a table behind their texts.
 
-// What a table has of an entry: its text and a checksum, so that a changed one shows.
-pub(crate) fn sealed(text: &[u8]) -> Vec<u8> {
-    [text, format!("{:08x}", checksum(text)).as_bytes()].concat()
+/// The bytes of a checksum.
+pub(crate) const SEAL: usize = 8;
+
+// What a table has of an entry: its text, and a checksum of it and of the last bytes before it in the log, so that one that was
+// changed or moved shows.
+pub(crate) fn sealed(text: &[u8], before: &[u8]) -> Vec<u8> {
+    [text, seal(text, before).as_bytes()].concat()
 }
 
-// The text of an entry; none if it was changed. What ends a line is one that another program wrote, and is left to the member.
-pub(crate) fn unsealed(mut stored: Vec<u8>) -> Option<Vec<u8>> {
+// The text of an entry; none if it was changed or moved. What ends a line is one that another program wrote, and is left to the
+// member; older tables have a checksum of the text alone.
+pub(crate) fn unsealed(stored: &[u8], before: &[u8]) -> Option<Vec<u8>> {
     if stored.last() == Some(&b'\n') {
-        return Some(stored);
+        return Some(stored.to_vec());
     }
-    let seal = stored.split_off(stored.len().checked_sub(8)?);
-    (seal == format!("{:08x}", checksum(&stored)).as_bytes()).then_some(stored)
+    let (text, found) = stored.split_at(stored.len().checked_sub(SEAL)?);
+    [before, b""]
+        .iter()
+        .any(|before| found == seal(text, before).as_bytes())
+        .then(|| text.to_vec())
+}
+
+fn seal(text: &[u8], before: &[u8]) -> String {
+    let last = &before[before.len().saturating_sub(SEAL)..];
+    format!("{:08x}", checksum(last.iter().chain(text)))
 }
 
 // CRC-32, as zlib has it.
-fn checksum(text: &[u8]) -> u32 {
-    !text.iter().fold(!0, |sum, byte| {
+fn checksum<'a>(bytes: impl Iterator<Item = &'a u8>) -> u32 {
+    !bytes.fold(!0, |sum, byte| {
         (0..8).fold(sum ^ u32::from(*byte), |sum, _| {
             (sum >> 1) ^ (0xedb8_8320 & (sum & 1).wrapping_neg())
         })
@@ -24,10 +37,19 @@ fn checksum(text: &[u8]) -> u32 {
 }
 
 #[test]
-fn a_changed_text_shows() {
-    assert_eq!(sealed(b"123456789"), b"123456789cbf43926");
-    assert_eq!(unsealed(sealed(b"a\n")), Some(b"a\n".to_vec()));
-    assert_eq!(unsealed(b"123456780cbf43926".to_vec()), None);
-    assert_eq!(unsealed(b"123456".to_vec()), None);
-    assert_eq!(unsealed(b"another\n".to_vec()), Some(b"another\n".to_vec()));
+fn a_changed_or_moved_text_shows() {
+    let first = sealed(b"123456789", b"");
+    assert_eq!(first, b"123456789cbf43926");
+    assert_eq!(unsealed(&first, b""), Some(b"123456789".to_vec()));
+    let second = sealed(b"a\n", &first);
+    assert_eq!(unsealed(&second, &first), Some(b"a\n".to_vec()));
+    assert_eq!(unsealed(&second, &second), None);
+    assert_eq!(unsealed(b"123456780cbf43926", b""), None);
+    assert_eq!(unsealed(b"123456", b""), None);
+    assert_eq!(unsealed(b"another\n", b""), Some(b"another\n".to_vec()));
+    // As in an older table.
+    assert_eq!(
+        unsealed(b"123456789cbf43926", &second),
+        Some(b"123456789".to_vec())
+    );
 }

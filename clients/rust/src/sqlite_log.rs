@@ -18,7 +18,8 @@ const OPEN: [&str; 3] = [
 const BEGIN: &str = "BEGIN IMMEDIATE\0";
 const ROLLBACK: &str = "ROLLBACK\0";
 const COMMIT: &str = "COMMIT\0";
-const APPEND: &str = "INSERT INTO entries SELECT coalesce(max(at) + 1, 0), ?1, ?2 FROM entries\0";
+const LAST: &str = "SELECT at, substr(CAST(text AS BLOB), -8) FROM entries WHERE at < ?3 ORDER BY at DESC LIMIT 1\0";
+const APPEND: &str = "INSERT INTO entries VALUES (?3, ?1, ?2)\0";
 const HAS: &str = "SELECT at, text FROM entries WHERE tag = ?1\0";
 const READ: &str =
     "SELECT at, text FROM entries WHERE at >= ?3 AND typeof(text) = 'blob' ORDER BY at LIMIT 256\0";
@@ -61,20 +62,24 @@ impl SqliteLog {
         if begun != DONE {
             return begun;
         }
+        let (mut code, mut last) = base.run(LAST, "", b"", i64::MAX as usize);
+        let (at, before) = last.pop().map_or((0, vec![]), |(at, end)| (at + 1, end));
+        let stored = sealed(text, &before);
         for sql in [APPEND, COMMIT] {
-            let code = base.run(sql, tag, text, 0).0;
-            if code != DONE {
-                base.run(ROLLBACK, "", b"", 0);
-                return code;
+            if code == DONE {
+                code = base.run(sql, tag, &stored, at).0;
             }
         }
-        DONE
+        if code != DONE {
+            base.run(ROLLBACK, "", b"", 0);
+        }
+        code
     }
 }
 
 impl Log for SqliteLog {
     fn append(&mut self, tag: &str, text: &[u8]) -> Appended {
-        match self.write(tag, &sealed(text)) {
+        match self.write(tag, text) {
             DONE | CONSTRAINT => Appended::Done,
             // What was written of it is rolled back, unless the log has it.
             FULL | TOO_BIG | READ_ONLY if self.0.run(HAS, tag, b"", 0) == (DONE, vec![]) => {
@@ -85,19 +90,22 @@ impl Log for SqliteLog {
     }
 
     fn read(&mut self, index: usize) -> Result<Vec<Vec<u8>>, LogError> {
-        let (code, rows) = self.0.run(READ, "", b"", index);
-        if code != DONE {
+        let (code, mut last) = self.0.run(LAST, "", b"", index);
+        let (end, rows) = self.0.run(READ, "", b"", index);
+        if (code, end) != (DONE, DONE) {
             return Err(LogError::Away(self.0.message()));
         }
-        let is_end = rows.is_empty();
-        let entries: Vec<Vec<u8>> = (index..)
-            .zip(rows)
-            .map_while(|(at, row)| unsealed(row.1).filter(|_| row.0 == at))
-            .collect();
-        match entries.is_empty() && !is_end {
-            true => Err(LogError::Stopped(index)),
-            false => Ok(entries),
+        let mut before = last.pop().map_or(vec![], |row| row.1);
+        let mut entries = Vec::new();
+        for (at, (found, stored)) in (index..).zip(rows) {
+            match unsealed(&stored, &before) {
+                Some(text) if found == at => entries.push(text),
+                _ if entries.is_empty() => return Err(LogError::Stopped(index)),
+                _ => break,
+            }
+            before = stored;
         }
+        Ok(entries)
     }
 }
 
