@@ -2,6 +2,7 @@ pub mod Committing
 mod Listing
 mod Numbering
 mod Opening
+mod Preserving
 pub mod Prefixes
 mod ReplayLemmas
 mod Refusing

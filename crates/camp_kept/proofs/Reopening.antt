@@ -60,7 +60,8 @@ other_limits new wanted calls limits file accepted decoded has =
     let same : calls.limits ≡ limits = one_title calls.limits limits accepted.range has.range title in
     (same, λ are. has.unwanted (subst (AreAsWanted wanted) same are))
 
-by_fault : (wanted : Option Bounds) (calls : StoreContents) (file : List ℕ) → AreAccepted calls → DecodesToCalls (new_limits wanted) calls file → (usable : Bool) (why : PersistenceFault) → RefusesToOpen usable wanted why file
+-- why a store of accepted calls is not opened
+pub by_fault : (wanted : Option Bounds) (calls : StoreContents) (file : List ℕ) → AreAccepted calls → DecodesToCalls (new_limits wanted) calls file → (usable : Bool) (why : PersistenceFault) → RefusesToOpen usable wanted why file
     → IsOpeningFault usable wanted calls.limits why
 by_fault wanted calls file accepted decoded usable persistence.Memory refused = tt
 by_fault wanted calls file accepted decoded usable persistence.NoStore refused = absurd (is_some_store (new_limits wanted) calls file accepted decoded decoded.are refused)

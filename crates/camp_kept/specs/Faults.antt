@@ -90,6 +90,12 @@ IsContentFault (persistence.Damaged call at) = Unit {0}
 IsContentFault (persistence.OtherLimits catches branches) = Unit {0}
 IsContentFault other = ⊥
 
+-- the bytes of a file are refused: it is not a store, is damaged, or is a store with other limits than the wanted ones
+pub record IsRefusedFile (wanted : Option Bounds) (file : List ℕ) : Type 0 where
+  pub why : PersistenceFault
+  pub of_contents : IsContentFault why
+  pub refuses : RefusesFile wanted why file
+
 -- no disk fault is reported
 abbrev pub IsNoDiskFault : PersistenceFault → Type 0
 IsNoDiskFault (persistence.Store fault) = ⊥

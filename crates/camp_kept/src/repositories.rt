@@ -1,7 +1,7 @@
 //! The durable repository.
 ghost use Rattle.std.specs.Prelude.{◌≡◌, ◌⊎◌, ◌-◌, List, Err, false, length, IfErr, IfOk, IsTrue, MatchResult, OnOk, Option, ℕ};
 ghost use Rattle.camp_kept.specs.Accepting.{StoreContents};
-ghost use Rattle.camp_kept.specs.Faults.{CountsDiskFaults, IsCommitFault, IsContentFault, RefusesToCommit, RefusesToOpen, ReportsDiskFault};
+ghost use Rattle.camp_kept.specs.Faults.{CountsDiskFaults, IsCommitFault, IsContentFault, IsRefusedFile, RefusesToCommit, RefusesToOpen, ReportsDiskFault};
 ghost use Rattle.camp_kept.specs.declared.faults.PersistenceFault.TheVariants as fault;
 ghost use Rattle.camp_kept.specs.Persisting.{IsStoreOf, IsUntouched, LeavesCalls};
 ghost use Rattle.camp_kept.specs.Titles.{AreAsWanted, new_limits};
@@ -47,6 +47,8 @@ impl<D: Disk> DurableRepository<D> {
         ensures refused { IfErr result (λ e. IsTrue (D.Disk.is_clean e.1) → RefusesToOpen (D.Disk.is_usable disk) wanted e.0 (D.Disk.seen disk)) }
         // A file that is not a store, is damaged, or has other limits, stays unchanged.
         ensures untouched { IfErr result (λ e. IsContentFault e.0 → IsUntouched D.Disk.seen D.Disk.may_leave disk e.1) }
+        // So does such a file if another fault comes first, as when memory runs out.
+        ensures preserved { IfErr result (λ e. IsTrue (D.Disk.is_clean e.1) → IsRefusedFile wanted (D.Disk.seen disk) → IsUntouched D.Disk.seen D.Disk.may_leave disk e.1) }
         ensures known { IfOk result (λ repository. durable_count_in repository ≡ length (accepted_by repository).calls) }
         ensures open_to_commits { IfOk result (λ repository. IsTrue (may_commit repository)) }
         ensures faults { IfOk result (λ repository. D.Disk.faults (disk_in repository) ≡ D.Disk.faults disk) }
@@ -61,13 +63,14 @@ impl<D: Disk> DurableRepository<D> {
             Ok(found) => found,
             Err(fault) => return Err((fault, disk)),
         };
+        let durable_count = book.history().len();
         let log = match Log::open(disk, &reading) {
             Ok(log) => log,
             Err((fault, disk)) => return Err((PersistenceFault::Store(fault), disk)),
         };
         match ensure_title(alloc, log, &reading.texts, new_limits(&wanted)) {
             Ok(log) => Ok(DurableRepository {
-                durable_count: book.history().len(),
+                durable_count,
                 torn_tail_len: torn_tail_len(&reading),
                 book,
                 log,

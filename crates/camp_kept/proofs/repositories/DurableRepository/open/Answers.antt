@@ -5,6 +5,7 @@ use Rattle.camp_kept.specs.Titles.{new_limits}
 use Rattle.camp_kept.proofs.Committing.{counted}
 use Rattle.camp_kept.proofs.Listing.{legal_alone}
 use Rattle.camp_kept.proofs.Opening.{as_read, decoded_again, decoded_short, decodes_too, no_bytes}
+use Rattle.camp_kept.proofs.Preserving.{recovered_unrefused}
 use Rattle.camp_kept.proofs.Refusing.{unclosed_unopened, untitled_unopened}
 use Rattle.camp_repo.specs.Limits.{Bounds}
 use Rattle.camp_store.specs.Logs.{PersistsTexts, disk_of, texts_of}
@@ -58,10 +59,10 @@ returns-in-Ok-ensure_title-clause-persists g c clean =
       accepted = record {
         range = c.in-Ok.ensures.recovered.range;
         can = c.in-Ok.ensures.recovered.can;
-        legal = legal_alone book c.history.ensures.first c.history.ensures.legal;
+        legal = legal_alone book c.history-durable_count.ensures.first c.history-durable_count.ensures.legal;
       };
       texts = all g at.In-Ok-ensure_title (persists g at.After-ensure_title is);
-      count_is = ap length c.history.ensures.value ∙ counted book.calls;
+      count_is = ap length c.history-durable_count.ensures.value ∙ counted book.calls;
     }
 
 pub returns-in-Ok-ensure_title-clause-crash : goal.returns-in-Ok-ensure_title-clause-crash
@@ -100,3 +101,13 @@ returns-clause-refused g c clean =
     let then = (goal.at.returns-clause-refused g c).After-ensure_title in
     let is = c.in-Ok.ensures.reading (subst (λ b. IsTrue b) (c.in-Err-ensure_title.ensures.clean_err ∙ c.in-Ok-open.ensures.clean) clean) in
     untitled_unopened (g.D.Disk.is_usable c.args.disk) c.args.wanted c.in-Err-ensure_title.failed.0 (g.D.Disk.seen c.args.disk) (c.in-Err-ensure_title.ensures.untitled (persists g then is) (c.in-Ok-open.ensures.usable c.in-Ok.ensures.usable))
+
+pub returns-in-Err-open-clause-preserved : goal.returns-in-Err-open-clause-preserved
+returns-in-Err-open-clause-preserved g c clean refused =
+    let is = c.in-Ok.ensures.reading (subst (λ b. IsTrue b) c.in-Err-open.ensures.clean_err clean) in
+    absurd (recovered_unrefused c.args.wanted (g.D.Disk.seen c.args.disk) c.in-Ok.found.0 c.in-Ok.found.1 is c.in-Ok.ensures.short c.in-Ok.ensures.recovered c.history-durable_count.ensures.first c.history-durable_count.ensures.legal refused)
+
+pub returns-clause-preserved : goal.returns-clause-preserved
+returns-clause-preserved g c clean refused =
+    let is = c.in-Ok.ensures.reading (subst (λ b. IsTrue b) (c.in-Err-ensure_title.ensures.clean_err ∙ c.in-Ok-open.ensures.clean) clean) in
+    absurd (recovered_unrefused c.args.wanted (g.D.Disk.seen c.args.disk) c.in-Ok.found.0 c.in-Ok.found.1 is c.in-Ok.ensures.short c.in-Ok.ensures.recovered c.history-durable_count.ensures.first c.history-durable_count.ensures.legal refused)
