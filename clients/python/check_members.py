@@ -3,8 +3,9 @@
     python3 check_members.py sqlite:PATH | etcd:HOST:PORT[,HOST:PORT ..]/PREFIX | postgres:DSN [--members N] [--calls N] [--wrong NAME]
 
 The library is found as `import camp` finds it. A fifth of the appends get no answer: of these a quarter never come, a quarter come, a
-quarter come late, mostly after the retry, and a quarter come twice. A twentieth of the reads get none either. Each member is a thread with a session of its own. `--wrong` plants a member that is wrong in one way (`WRONG`), which the check has to
-find. The exit status is 0 where the replies are as promised, or where what was planted is found."""
+quarter come late, mostly after the retry, and a quarter come twice. A twentieth of the reads get none either. Each member is a thread with a
+session of its own; eight of 125,000 calls each are a million. `--wrong` plants a member that is wrong in one way (`WRONG`), which the check
+has to find. The exit status is 0 where the replies are as promised, or where what was planted is found."""
 
 import argparse
 import collections
@@ -213,14 +214,14 @@ class Run:
 
 
 class Replay:
-    """The log in one session: the answer at each place, and at each index how many calls were accepted."""
+    """The log in one session: the answer at each place, at each index how many calls were accepted, and the history where members ended."""
 
-    def __init__(self, texts, questions):
+    def __init__(self, texts, questions, ends):
         session, numbers, count = Repository(), {}, 0
         self.answers, self.counts, self.requests, self.at_index, self.histories = {}, {}, [], {}, {}
         self.gap, self.length = None, len(texts)
         for index, text in enumerate(texts):
-            self._ask_at(session, index, count, questions)
+            self._ask_at(session, index, count, questions, ends)
             if index:
                 head, _, body = text.partition(b"\n")
                 _, seat, number = head.split(b" ")
@@ -236,13 +237,14 @@ class Replay:
                         self.answers[index, place], self.counts[index, place] = answer, count
                         self.requests.append((seat.decode(), call))
         else:
-            self._ask_at(session, len(texts), count, questions)
+            self._ask_at(session, len(texts), count, questions, ends)
         self.count = count
         session.close()
 
-    def _ask_at(self, session, index, count, questions):
+    def _ask_at(self, session, index, count, questions, ends):
         self.counts[index] = count
-        self.histories[index] = session.ask(b"history\n")
+        if index in ends:
+            self.histories[index] = session.ask(b"history\n")
         for call in questions.get(index, ()):
             question = call.split()[0] not in CALLS
             self.at_index[index, call] = session.ask(call) if question else what_if(session, call)
@@ -254,7 +256,7 @@ def check(run, texts):
     for one in run.answered:
         if isinstance(one.place, int):
             questions[one.place].add(one.request.call)
-    replay, wrong = Replay(texts, questions), []
+    replay, wrong = Replay(texts, questions, {index for index, _, _ in run.ends}), []
     if replay.gap is not None:
         wrong.append("entry %d: a number is skipped" % replay.gap)
     for one in run.answered:

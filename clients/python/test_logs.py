@@ -1,4 +1,4 @@
-"""Tests SqliteLog, RememberedLog and Shared over them: `python3 -m unittest test_logs`, in this folder."""
+"""Tests SqliteLog, RememberedLog, snapshots and Shared over them: `python3 -m unittest test_logs`, in this folder."""
 
 import contextlib
 import fcntl
@@ -12,6 +12,7 @@ import unittest
 from camp import Add, Edit, NoBranch, PatchExists, TooLarge
 from camp.logs import TITLE, AppendOutcome, Away, Damaged, Foreign, RememberedLog, SqliteLog, open_log, title_with
 from camp.shared import NOT_READ, LogRefused, Shared, Stopped, turn
+from camp.snapshots import BadSnapshot, read_snapshot, write_snapshot
 
 
 class Sqlite(unittest.TestCase):
@@ -295,6 +296,62 @@ class SharedRepository(unittest.TestCase):
         with self.assertRaises(Stopped) as stopped:
             anna.sync()
         self.assertEqual((stopped.exception.index, anna.names("main")), (2, ["p"]))
+
+    def snapshot(self):
+        path = os.path.join(self.folder.name, "snapshot")
+        return path, write_snapshot(self.logs[0], path)
+
+    def test_a_snapshot_stands_for_the_log(self):
+        anna, ben = self.share(), self.share()
+        anna.record("main", "start", [Add("f")], "a note")
+        anna.branch("other", "main")
+        ben.sync()
+        ben.record("other", "more", [Add("g")])
+        # Its call is refused where it stands.
+        refused = b"entry eeeeeeeeeeeeeeeeeeeeeeeeeeeeeeee 1\nrecord main start add h\n"
+        self.logs[0].append("e/1", refused)
+        anna.sync()
+        anna.pull("other", "main")
+        path, snapshot = self.snapshot()
+        self.assertEqual([at for at, _ in snapshot.entries], [2, 3, 4, 5])
+        self.assertEqual(snapshot.entries[0][1].split(b"\n", 1)[1], b"#note a note\nrecord main start add f\nbranch other main\n")
+        self.assertEqual(read_snapshot(path), snapshot)
+        # It does not count again.
+        self.logs[0].append("e/1, again", refused)
+        self.logs.append(open_log(self.address))
+        self.shares.append(Shared(self.logs[-1], snapshot=path))
+        new = self.shares[-1]
+        self.assertEqual((new.entries, new.accepted), (6, 4))
+        self.assertEqual((new.record("main", "last", [Add("i")]), anna.sync(), ben.sync()), (5, 5, 5))
+        for one in (new, self.share()):
+            self.assertEqual((one.entries, one.history(), one.notes, one.tree("main")), (8, anna.history(), anna.notes, anna.tree("main")))
+
+    def test_a_snapshot_of_a_log_without_calls(self):
+        self.share()
+        path, snapshot = self.snapshot()
+        with Shared(self.logs[0], snapshot=path) as shared:
+            self.assertEqual((snapshot.entries, shared.entries, shared.record("main", "p", [Add("f")])), ([], 1, 1))
+
+    def test_a_snapshot_that_was_changed_or_is_of_another_log_is_refused(self):
+        anna = self.share()
+        anna.record("main", "p", [Add("f")])
+        path, _ = self.snapshot()
+        with open(path, "rb") as file:
+            whole = file.read()
+        for at in (0, len(whole) // 2, len(whole) - 1):
+            for changed in (whole[:at], whole[:at] + bytes([whole[at] ^ 1]) + whole[at + 1:]):
+                with open(path, "wb") as file:
+                    file.write(changed)
+                self.assertRaises(BadSnapshot, read_snapshot, path)
+        with open(path, "wb") as file:
+            file.write(whole)
+        with contextlib.closing(SqliteLog(os.path.join(self.folder.name, "another.db"))) as another:
+            self.assertRaises(BadSnapshot, Shared, another, snapshot=path)
+            with Shared(another) as shared:
+                shared.record("main", "p", [Add("f")])
+            self.assertRaises(BadSnapshot, Shared, another, snapshot=path)
+        self.logs[0].append("x", b"something else\n")
+        self.assertRaises(BadSnapshot, self.snapshot)
 
     def test_what_is_executed_here_is_not_in_the_log(self):
         anna = self.share()

@@ -1,6 +1,6 @@
 """Members of a shared log are paused and killed, its servers stop, its entries change: each answered call is there once, and damage is reported.
 
-Words: kills, servers, entries name parts; a number: so many kills of members. It needs the library for C; without etcd `servers` is
+Words: kills, servers, entries name parts; a number: so many kills of members, which are some 1,000 calls each. It needs the library for C; without etcd `servers` is
 skipped. The members are processes over camp.shared, which record one patch after another and say which number each got.
 """
 
@@ -46,6 +46,14 @@ for at in range(1_000_000):
     number = shared.record("main", name, [Add(name)])
     print(name, number, flush=True)
 """
+# The same, but it asks so many calls at a time.
+BATCH = 8
+BATCHES = MEMBER.partition("for at in")[0] + f"""
+for at in range(0, 1_000_000, {BATCH}):
+    names = [b"%s-%d" % (sys.argv[2].encode(), one) for one in range(at, at + {BATCH})]
+    for name, answer in zip(names, shared.write_all([(b"record main %s add %s\\n" % (name, name), b"") for name in names])):
+        print(name.decode(), answer.split()[1].decode(), flush=True)
+"""
 # What one session has of a log: why it was read no further, if so; how many entries were read; and the accepted calls.
 REPLAY = """
 import json, sys
@@ -88,10 +96,11 @@ def run(report, words):
 
 
 class Members:
-    """Members of one log, which are killed in the end, and what each was answered. `within` are words before a command."""
+    """Members of one log, which are killed in the end, and what each was answered. They ask so many calls at a time. `within` are words before
+    a command."""
 
-    def __init__(self, address, folder, environment, program=MEMBER, within=()):
-        self.address, self.folder, self.environment, self.program, self.within = address, folder, environment, program, within
+    def __init__(self, address, folder, environment, program=MEMBER, batch=1, within=()):
+        self.address, self.folder, self.environment, self.program, self.batch, self.within = address, folder, environment, program, batch, within
         self.peers, self.readers, self.answered = {}, {}, {}
         for _ in range(MEMBERS):
             self.begin()
@@ -134,7 +143,7 @@ class Members:
         while not is_done(counts := self.counts()):
             moved, seen, now = moved if counts == seen else now, counts, time.monotonic()
             ended = [name for name, peer in self.peers.items() if peer.poll() is not None]
-            starves = before and now > began + LONG and sorted(counts[name] - before[name] for name in counts)[1] >= MANY
+            starves = before and now > began + LONG and sorted(counts[name] - before[name] for name in counts)[1] >= MANY * self.batch
             if ended or starves or now > moved + STILL:
                 what = "one has ended" if ended else "one starves" if starves else "all stand still"
                 return f"{what}: {counts} after {before}\n{self.told(ended)}"
@@ -172,7 +181,7 @@ class Members:
 
 def kills(report, folder, environment, number):
     """Members over SQLite are paused and killed at random moments, and others begin."""
-    members, chance = Members(f"sqlite:{folder}/log.db", folder, environment), random.Random(number)
+    members, chance = Members(f"sqlite:{folder}/log.db", folder, environment, BATCHES, BATCH), random.Random(number)
     try:
         report.expect("members answer", members.wait(1), "")
         for _ in range(number):
@@ -260,8 +269,8 @@ def replay(report, address, environment, within=()):
 
 
 def check(report, members):
-    """One session that reads the log has each answered call at its number, no call twice, and of each member at most one call more
-    than were answered."""
+    """One session that reads the log has each answered call at its number, no call twice, and of each member at most the calls of one time
+    more than were answered."""
     why, _, commands = replay(report, members.address, members.environment, members.within)
     report.expect("the log is read to its end", why, None)
     patches = [it.split()[2] for it in commands]
@@ -271,7 +280,7 @@ def check(report, members):
         lost += sum(patch not in set(patches) for patch, _ in answered)
         wrong += sum(patches[number - 1:number] != [patch] for patch, number in answered)
         own = [it for it in patches if it.startswith(f"{name}-")]
-        beyond += len(own) > len(answered) + 1 or own != [f"{name}-{at}" for at in range(len(own))]
+        beyond += len(own) > len(answered) + members.batch or own != [f"{name}-{at}" for at in range(len(own))]
     report.count("answered calls", sum(map(len, members.answered.values())))
     for what, number in (("lost", lost), ("wrong replies", wrong), ("twice", len(patches) - len(set(patches))), ("out of order", beyond)):
         report.expect(what, number, 0)

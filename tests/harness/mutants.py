@@ -70,13 +70,14 @@ class Mutant:
         return texts
 
     def note_function(self, function, file):
-        """A check is asked for a function by its name where no other has it, and else with its type or its module."""
+        """A check is asked for a function by its name where no other has it, nor a closure that is passed to it; else with its type or its
+        module."""
         if not file.endswith(".rt"):
             self.functions.add(file)
         elif function:
             self.functions.add(function)
             texts = [read_text(it) for it in sources(self.crate)]
-            is_alone = sum(names_in(it).count(function) + is_derived(function, it) for it in texts) == 1
+            is_alone = sum(names_in(it).count(function) + is_derived(function, it) + takes_closures(function, it) for it in texts) == 1
             self.paths[function] = function if is_alone else path_of(function, file, self.crate)
 
 
@@ -90,6 +91,10 @@ def names_in(text):
 
 def is_derived(function, text):
     return bool(function in DERIVED and re.search(rf"derive\(.*\b{DERIVED[function]}\b", text))
+
+
+def takes_closures(function, text):
+    return bool(re.search(rf"\bfn {function}<[^(]*: Fn(?:Once|Mut)?\(", text))
 
 
 def function_at(text, place):

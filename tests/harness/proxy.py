@@ -9,7 +9,7 @@ import time
 # What becomes of a request: how many of a hundred.
 FATES = {"requests lost": 5, "answers lost": 10, "requests late": 5, "requests twice": 5}
 # A late one comes after so many seconds: the client has given up by then, and mostly asked again.
-LATE = (0.6, 2.0)
+LATE = (0.6, 5.0)
 # A stream of answers is cut after so many seconds at most.
 STREAM = 3.0
 

@@ -175,6 +175,12 @@ int32_t camp_member_want(camp_member *member);
  * CAMP_OUT_OF_ORDER, CAMP_MEMORY: nothing has changed. */
 int32_t camp_member_found(camp_member *member, size_t index, const uint8_t *text, size_t length);
 
+/* Gives a member, before it reads a log, what a snapshot of the log has at an index, in order: an entry, as the log has
+ * them, which may stand for those before it. It then goes on after that index. All that a snapshot says: the accepted
+ * calls in order, each under its seat, and of each seat the last number in the log. CAMP_FOREIGN: no entry, one of this seat, or its
+ * number does not rise. CAMP_FOREIGN, CAMP_OUT_OF_ORDER, CAMP_MEMORY: nothing has changed. */
+int32_t camp_member_restore(camp_member *member, size_t index, const uint8_t *text, size_t length);
+
 /* Says that the log did not take the entry that is wanted, and never will. */
 int32_t camp_member_refused(camp_member *member);
 

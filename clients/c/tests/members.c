@@ -1,5 +1,5 @@
-/* Two members share a history over a log in memory: entries, answers, a repeated entry, a refusal, a foreign entry, and handles
- * that are closed or of another kind. */
+/* Two members share a history over a log in memory: entries, answers, a repeated entry, a refusal, a snapshot, a foreign entry, and
+ * handles that are closed or of another kind. */
 #include "camp.h"
 #include <stdio.h>
 #include <stdlib.h>
@@ -73,6 +73,22 @@ static void share(camp_member *ann, camp_member *ben) {
     camp_view_close(&view);
 }
 
+/* A member that goes on from a snapshot of three entries answers as one that has read them. */
+static void restored(camp_member *ben) {
+    const char *kept = "entry 000000000000000a000000000000000b 1\n#note start\nrecord main start add f\n";
+    camp_member new = CAMP_CLOSED;
+    CHECK(camp_member_open(&new, 0, 9, bytes(entries.text[0]), 11) == CAMP_DONE);
+    CHECK(camp_member_restore(&new, 0, bytes(kept), strlen(kept)) == CAMP_OUT_OF_ORDER);
+    CHECK(camp_member_restore(&new, 2, bytes("x\n"), 2) == CAMP_FOREIGN && camp_member_index(&new) == 1);
+    CHECK(camp_member_restore(&new, 2, bytes(kept), strlen(kept)) == CAMP_DONE && camp_member_index(&new) == 3);
+    CHECK(camp_member_restore(&new, 3, bytes(kept), strlen(kept)) == CAMP_FOREIGN && camp_member_accepted(&new) == 1);
+    CHECK(go_on(&new, 0) == CAMP_DONE && camp_member_index(&new) == camp_member_index(ben));
+    CHECK(camp_member_call(&new, 0) == CAMP_DONE && gives(&new, "#note start\nrecord main start add f\n"));
+    CHECK(ask(&new, 1, "names main\n", 1) == CAMP_DONE && go_on(&new, 0) == CAMP_DONE && answers(&new, 1, "names 1\nstart\n"));
+    camp_member_close(&new);
+    CHECK(camp_member_restore(&new, 1, bytes(kept), strlen(kept)) == CAMP_NOT_OPEN);
+}
+
 static void without_reply(camp_member *ann) {
     CHECK(ask(ann, 3, "branch b main\n", 0) == CAMP_DONE && camp_member_want(ann) == CAMP_APPEND);
     CHECK(camp_member_refused(ann) == CAMP_DONE && camp_member_answer(ann) == CAMP_REFUSED && camp_member_number(ann) == 3);
@@ -106,6 +122,7 @@ int main(void) {
     CHECK(camp_member_open(&ann, 10, 11, bytes(entries.text[0]), 11) == CAMP_DONE);
     CHECK(camp_member_open(&ben, UINT64_MAX, UINT64_MAX, bytes(entries.text[0]), 11) == CAMP_DONE);
     share(&ann, &ben);
+    restored(&ben);
     without_reply(&ann);
     wrong_handles(&ann);
     camp_member_close(&ann);

@@ -198,6 +198,9 @@ static int run_member(void) {
     if (TWICE(camp_member_look(&member, &view)) != CAMP_DONE || !view.is_open) return 13;
     camp_view_close(&view);
     camp_member_close(&member);
+    if (TWICE(camp_member_open(&member, 1, 3, (const uint8_t *)"camp log 1\n", 11)) != CAMP_DONE) return 14;
+    if (TWICE(camp_member_restore(&member, 1, text, length)) != CAMP_DONE || camp_member_accepted(&member) != 1) return 15;
+    camp_member_close(&member);
     return 0;
 }
 

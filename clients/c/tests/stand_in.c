@@ -108,6 +108,11 @@ int32_t camp_member_found(camp_member *member, size_t index, const uint8_t *text
     return ask(length);
 }
 
+int32_t camp_member_restore(camp_member *member, size_t index, const uint8_t *text, size_t length) {
+    (void)member, (void)index, (void)text;
+    return ask(length);
+}
+
 int32_t camp_member_refused(camp_member *member) {
     (void)member;
     return CAMP_DONE;

@@ -58,7 +58,7 @@ def _declare(library: Any, name: str, arguments: List[Any], result: Any) -> None
 def _declare_members(library: Any, handle: Any) -> None:
     number, size, text = ctypes.c_uint64, ctypes.c_size_t, ctypes.c_char_p
     asked = {"open": [number, number, text, size], "take_seat": [number, number], "ask": [number, text, size, number], "want": [],
-             "found": [size, text, size], "refused": [], "ended": [size], "answer": [], "call": [size], "look": [handle]}
+             "found": [size, text, size], "restore": [size, text, size], "refused": [], "ended": [size], "answer": [], "call": [size], "look": [handle]}
     told = {"number": ([], number), "text_length": ([], size), "text": ([text, size], size), "index": ([], size), "accepted": ([], number), "close": ([], None)}
     for name, arguments in asked.items():
         _declare(library, "camp_member_" + name, [handle, *arguments], ctypes.c_int32)

@@ -73,6 +73,10 @@ class LogMember:
         """Reads what stands at an index of the log: DONE, FOREIGN or OUT_OF_ORDER."""
         return _code(LIBRARY.camp_member_found(self._handle, index, text, len(text)))
 
+    def restore(self, index: int, text: bytes) -> Code:
+        """Restores what a snapshot of the log has at an index: DONE, FOREIGN or OUT_OF_ORDER."""
+        return _code(LIBRARY.camp_member_restore(self._handle, index, text, len(text)))
+
     def refused(self) -> None:
         """Takes that the log took nothing of what was to be appended, and never will."""
         _code(LIBRARY.camp_member_refused(self._handle))

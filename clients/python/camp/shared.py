@@ -29,6 +29,7 @@ from .changes import Change, Text, record_command, to_bytes
 from .errors import Error, OutcomeUnknown, error_of
 from .logs import AppendOutcome, Away, Damaged, Log, default_patience, limits_of
 from .repository import Calls, Repository
+from .snapshots import BadSnapshot, Snapshot, read_snapshot
 
 CALLS = (b"branch", b"record", b"pull", b"obliterate")
 NOTE = b"#note"
@@ -222,6 +223,17 @@ class Member:
             self._stop("no title of a log of camp")
         self._ask_early()
 
+    def restore(self, snapshot: Snapshot) -> None:
+        """Goes on from a snapshot of the log, before it has read anything of it."""
+        assert self.index == 0
+        self._open(snapshot.title)
+        assert self._decides
+        for index, text in snapshot.entries:
+            if self._decides.restore(index, text) is not Code.DONE:
+                raise BadSnapshot("the snapshot has an entry that can't follow, at {}".format(index))
+            self._keep_accepted()
+        self.index = snapshot.index + 1
+
     def _keep_accepted(self) -> None:
         """Executes the calls that were accepted in the last entry in the repository too, and keeps their notes."""
         assert self._decides
@@ -326,11 +338,15 @@ class Shared(Calls):
     method that writes returns once its entry was read back, and raises `OutcomeUnknown` where the log does not answer
     for `patience` seconds (those that CAMP_PATIENCE says, or 5): the call may have taken place, or may yet.
 
-    Notes are texts kept by the name of a patch."""
+    It goes on from the file of a `snapshot`, if there is one. Notes are texts kept by the name of a patch."""
 
-    def __init__(self, log: Log, seat: Optional[str] = None, patience: Optional[float] = None) -> None:
+    def __init__(self, log: Log, seat: Optional[str] = None, patience: Optional[float] = None, snapshot: Optional[str] = None) -> None:
         super().__init__()
         self._log, self._member = log, Member(seat)
+        if snapshot is not None:
+            found = read_snapshot(snapshot)
+            found.check(log)
+            self._member.restore(found)
         self._patience = default_patience() if patience is None else patience
         # How many calls were asked of the member: each has its number, since an answer may come after nobody waits for it.
         self._asked = 0

@@ -11,7 +11,7 @@ use Rattle.camp_member.specs.declared.faults.ReadFault.TheVariants as read
 use Rattle.camp_member.specs.declared.requests.NoReply.TheVariants as no_reply
 use Rattle.camp_object.specs.Histories.{replay}
 use Rattle.camp_repo.specs.States.{Contents}
-use Rattle.camp_shared.specs.Asking.{AsksText, EndsTexts, FindsText}
+use Rattle.camp_shared.specs.Asking.{AsksText, EndsTexts, FindsText, RestoresText}
 use Rattle.camp_shared.specs.Sharing.{IsNotOpened, shared_from}
 use Rattle.camp_shared.specs.declared.faults.AskFault.{AskFault}
 use Rattle.camp_shared.specs.declared.faults.AskFault.TheVariants as ask
@@ -94,6 +94,14 @@ pub record WantsOne (old : MemberSession) (code : ℤ) (new : MemberSession) : T
 pub record FindsOne (index : ℕ) (text : List ℕ) (old : MemberSession) (code : ℤ) (new : MemberSession) : Type 0 where
   pub outcome : Result (Unit {0}) ReadFault
   pub finds : FindsText old.member index text outcome new.member
+  pub goes : MemberAdvances (shared_from old.member.reading.first) (λ _ _. ⊥) old.member new.member
+  pub keeps : KeepsOutput old new
+  pub reports : code ≡ code_of_reading outcome
+
+-- a member restores a text of a snapshot of its log, or the code says why not
+pub record RestoresOne (index : ℕ) (text : List ℕ) (old : MemberSession) (code : ℤ) (new : MemberSession) : Type 0 where
+  pub outcome : Result (Unit {0}) ReadFault
+  pub restores : RestoresText old.member index text outcome new.member
   pub goes : MemberAdvances (shared_from old.member.reading.first) (λ _ _. ⊥) old.member new.member
   pub keeps : KeepsOutput old new
   pub reports : code ≡ code_of_reading outcome

@@ -3,7 +3,7 @@ ghost use Rattle.std.specs.Option.{option_map_or};
 ghost use Rattle.std.specs.Prelude.{◌≡◌, ◌+◌, ◌*◌, ◌^◌, ◌++◌, None, length, take, drop, min, IfErr, IfOk};
 ghost use Rattle.camp_c.specs.Inside.{HoldsMember};
 ghost use Rattle.camp_c.specs.Handles.{OnMember, OpensClosed, member_in, text_of_member};
-ghost use Rattle.camp_c.specs.Members.{AsksOneCall, EndsOne, FindsOne, OpensOneMember, OpensViewOfMember, RefusesOne, RemovesAnswer, RendersOne, TakesSeat, WantsOne};
+ghost use Rattle.camp_c.specs.Members.{AsksOneCall, EndsOne, FindsOne, OpensOneMember, OpensViewOfMember, RefusesOne, RemovesAnswer, RendersOne, RestoresOne, TakesSeat, WantsOne};
 ghost use Rattle.camp_shared.specs.Sharing.{IsNotOpened};
 
 use crate::codes::{ALREADY_OPEN, DONE, MEMORY};
@@ -125,6 +125,21 @@ pub extern "C" fn camp_member_found(
 {
     handle.on_member(alloc, |member| {
         member_codes::reading(member.found(alloc, index, text))
+    })
+}
+
+/// Restores the text that a snapshot of the log has at an index, in order; entries before it may be missing.
+#[unsafe(no_mangle)]
+pub extern "C" fn camp_member_restore(
+    alloc: Global,
+    handle: &mut Handle,
+    index: usize,
+    text: &[u8],
+) -> i32
+    ensures { OnMember (RestoresOne index text.now) handle.old.keeper.held result handle.new.keeper.held }
+{
+    handle.on_member(alloc, |member| {
+        member_codes::reading(member.restore(alloc, index, text))
     })
 }
 

@@ -47,7 +47,7 @@ module _ {Call : Type 0} where
       ap length (of_seat-push entries entry seat ∙ ap (λ (b : Bool). of_seat seat entries ++ (if b then entry ∷ [] else [])) (ne_eqb entry.seat seat differs) ∙ append-nil (of_seat seat entries))
 
   -- the entries of a seat have the numbers 1, 2, .. in order
-  abbrev AreNumbered : ℕ → List (Tagged Call) → Type 0
+  abbrev pub AreNumbered : ℕ → List (Tagged Call) → Type 0
   AreNumbered before [] = Unit {0}
   AreNumbered before (entry ∷ entries) = (entry.number ≡ before + 1) × AreNumbered (before + 1) entries
 
@@ -70,7 +70,7 @@ module _ {Call : Type 0} where
         | false ↦ λ is. are
       ] refl
 
-  numbered-after : (seat : ℕ) (before : List (Tagged Call)) (log : List (Option (Tagged Call))) → AreNumbered 0 (of_seat seat before) → AreNumbered 0 (of_seat seat (counted_after before log))
+  pub numbered-after : (seat : ℕ) (before : List (Tagged Call)) (log : List (Option (Tagged Call))) → AreNumbered 0 (of_seat seat before) → AreNumbered 0 (of_seat seat (counted_after before log))
   numbered-after seat before [] are = are
   numbered-after seat before (found ∷ log) are = numbered-after seat (counted_with before found) log (numbered-with seat before found are)
 

@@ -51,13 +51,13 @@ module _ {State Call Reply : Type 0} (object : Sequential State Call Reply) wher
       ]
 
   -- the history of the entries that count
-  abbrev history_of : List (Tagged Call) → List (ℕ × Call)
+  abbrev pub history_of : List (Tagged Call) → List (ℕ × Call)
   history_of entries = accepted_after object [] (flat_map seated_calls entries)
 
   history_of-append : (one two : List (Tagged Call)) → history_of (one ++ two) ≡ accepted_after object (history_of one) (flat_map seated_calls two)
   history_of-append one two = ap (accepted_after object []) (flat_map-append seated_calls one two) ∙ accepted_after-append [] (flat_map seated_calls one) (flat_map seated_calls two)
 
-  history_of-push : (entries : List (Tagged Call)) (entry : Tagged Call) → history_of (entries ++ entry ∷ []) ≡ accepted_after object (history_of entries) (seated_calls entry)
+  pub history_of-push : (entries : List (Tagged Call)) (entry : Tagged Call) → history_of (entries ++ entry ∷ []) ≡ accepted_after object (history_of entries) (seated_calls entry)
   history_of-push entries entry = history_of-append entries (entry ∷ []) ∙ ap (accepted_after object (history_of entries)) (append-nil (seated_calls entry))
 
   history_of-grows : (one two : List (Tagged Call)) → IsBeginning one two → IsBeginning (history_of one) (history_of two)
@@ -91,11 +91,11 @@ module _ {State Call Reply : Type 0} (object : Sequential State Call Reply) wher
         readable = readable-append [] log (Some entry) is.readable (λ foreign. foreign.0 (effect.counts.0, number));
         index = omega (arith, next, at, size);
         history =
-            decided_accepts object old.history entry.seat entry.calls replies new.history effect.decided
+            decided_accepts object old.history entry.seat entry.calls replies new.history effect.decides.decided
             ∙ ap (λ list. accepted_after object list (seated_calls entry)) is.history
             ∙ sym (history_of-push (counted_entries log) entry)
             ∙ ap history_of (sym grown);
-        last = λ seat. effect.last seat ∙ (
+        last = λ seat. effect.decides.last seat ∙ (
             elim (seat == entry.seat) as (λ b. seat == entry.seat ≡ b → (if b then entry.number else number_in old.numbers seat) ≡ last_of (counted_entries (log ++ Some entry ∷ [])) seat) [
               | true ↦ λ same.
                   let equal : seat ≡ entry.seat = from_eqb seat entry.seat same in

@@ -187,7 +187,7 @@ module _ {State Call Reply : Type 0} (object : Sequential State Call Reply) wher
   reads_grow old new None replies reads some = cc
   reads_grow old new (Some entry) replies reads some =
       elim reads.effect as (λ _. IsBeginning old.history new.history) [
-        | inl effect ↦ decided_grows old.history entry.seat entry.calls replies new.history effect.decided
+        | inl effect ↦ decided_grows old.history entry.seat entry.calls replies new.history effect.decides.decided
         | inr effect ↦ (let P : List (ℕ × Call) → Type 0 = λ list. IsBeginning old.history list in subst P (sym effect.history) (begins_self old.history))
       ]
 
@@ -198,7 +198,7 @@ module _ {State Call Reply : Type 0} (object : Sequential State Call Reply) wher
   replies_fit old new (Some entry) replies requests reads some calls =
       let size = ap length calls ∙ length-map requests (λ (request : Request Call). request.call) in
       elim reads.effect as (λ _. length replies ≤ length requests) [
-        | inl effect ↦ (let each = decided_each old.history entry.seat entry.calls replies new.history effect.decided in omega (arith, size, each))
+        | inl effect ↦ (let each = decided_each old.history entry.seat entry.calls replies new.history effect.decides.decided in omega (arith, size, each))
         | inr effect ↦ (let none = ap length effect.none in omega (arith, none))
       ]
 
@@ -248,13 +248,13 @@ module _ {State Call Reply : Type 0} (object : Sequential State Call Reply) (old
     are =
         elim reads.effect as (λ _. IsBeginning old.reading.history new.reading.history × (own old.seat new.reading.history ≡ own old.seat old.reading.history)) [
           | inl effect ↦ (
-            decided_grows object old.reading.history entry.seat entry.calls replies new.reading.history effect.decided,
+            decided_grows object old.reading.history entry.seat entry.calls replies new.reading.history effect.decides.decided,
             decided_others object old.seat old.reading.history entry.seat entry.calls replies new.reading.history (
                 λ same.
                 let number = effect.counts.1 in
                 let last = ap (number_in old.reading.numbers) same in
                 found.other (same, omega (arith, number, last))
-                ) effect.decided,
+                ) effect.decides.decided,
           )
           | inr effect ↦ (
             (let P : List (ℕ × Call) → Type 0 = λ list. IsBeginning old.reading.history list in subst P (sym effect.history) (begins_self old.reading.history)),
@@ -280,7 +280,7 @@ module _ {State Call Reply : Type 0} (object : Sequential State Call Reply) (old
       goes_new : ReadsNew object old.reading entry replies new.reading → MemberAdvances object (λ _ _. ⊥) old new
       goes_new effect =
           let T : ℕ × List Call → Type 0 = λ t. AreDecided object old.reading.history t.0 t.1 replies new.reading.history in
-          let decided : AreDecided object old.reading.history old.seat (calls_asked (take old.sent old.waiting)) replies new.reading.history = subst T (λ i. (found.own.0 i, found.calls i)) effect.decided in
+          let decided : AreDecided object old.reading.history old.seat (calls_asked (take old.sent old.waiting)) replies new.reading.history = subst T (λ i. (found.own.0 i, found.calls i)) effect.decides.decided in
           let whole : take old.sent old.waiting ++ drop old.sent old.waiting ≡ old.waiting = take-append-drop old.sent old.waiting in
           let some = effect.counts.0.some in
           let size = ap length found.calls ∙ length-map (take old.sent old.waiting) (λ (request : Request Call). request.call) in

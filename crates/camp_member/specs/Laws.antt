@@ -6,6 +6,7 @@ use Rattle.camp_object.specs.Asking.{IsNotBusy}
 use Rattle.camp_member.specs.Entries.{Tagged, IsForeign, IsReadable, counted_entries, of_seat, number_in}
 use Rattle.camp_member.specs.Members.{Membership, as_answer}
 use Rattle.camp_member.specs.Readings.{Reading, IsReadingOf, ReadsEntry}
+use Rattle.camp_member.specs.Snapshots.{IsRestoredFrom, IsSnapshotOf, RestoresEntry}
 use Rattle.camp_member.specs.Telling.{AreAnsweredFrom, MemberAdvances, AnsweredRequest, accepted_in}
 use Rattle.camp_member.specs.Wanting.{FindsAt, IsStopped}
 use Rattle.camp_member.specs.declared.requests.NoReply.{NoReply}
@@ -50,6 +51,26 @@ module _ {State Call Reply : Type 0} (object : Sequential State Call Reply) wher
       (log first second : List (Option (Tagged Call))) (one two : Reading State Call)
       → IsBeginning first log → IsBeginning second log → IsReadingOf object first one → IsReadingOf object second two
       → IsBeginning one.history two.history ⊎ IsBeginning two.history one.history
+
+  -- a reader that has read nothing was restored from no entry
+  abbrev pub NothingIsRestored : Type 0
+  NothingIsRestored = (reading : Reading State Call) → reading.index ≡ 0 → reading.history ≡ [] → reading.numbers ≡ [] → IsRestoredFrom object [] 0 reading
+
+  -- a reader that restores one more entry was restored from that entry, too
+  abbrev pub RestoresOn : Type 0
+  RestoresOn =
+      (entries : List (Tagged Call)) (at index : ℕ) (old new : Reading State Call) (entry : Tagged Call)
+      → IsRestoredFrom object entries at old → RestoresEntry object index old entry new → IsRestoredFrom object (entries ++ entry ∷ []) (index + 1) new
+
+  -- a reader that was restored from a snapshot of a log, and goes on at the end of that log, has read the log
+  abbrev pub SnapshotStandsForLog : Type 0
+  SnapshotStandsForLog =
+      (log : List (Option (Tagged Call))) (entries : List (Tagged Call)) (reading : Reading State Call)
+      → IsSnapshotOf object log entries → IsRestoredFrom object entries (length log) reading → IsReadingOf object log reading
+
+  -- the entries of a log that count are a snapshot of it
+  abbrev pub CountedAreSnapshot : Type 0
+  CountedAreSnapshot = (log : List (Option (Tagged Call))) → IsReadable log → IsSnapshotOf object log (counted_entries log)
 
   -- the accepted calls of a seat are added to the history, each once, in the order of the requests
   abbrev pub AcceptedOnce : Type 0

@@ -7,5 +7,6 @@ pub mod Members
 pub mod NoteLaws
 pub mod Notes
 pub mod Readings
+pub mod Snapshots
 pub mod Telling
 pub mod Wanting

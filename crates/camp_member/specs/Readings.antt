@@ -30,11 +30,15 @@ module _ {State Call Reply : Type 0} (object : Sequential State Call Reply) wher
     pub history : reading.history ≡ lawful_part object log
     pub last : (seat : ℕ) → number_in reading.numbers seat ≡ last_of (counted_entries log) seat
 
-  -- an entry that counts is read: its calls are decided one after another
-  pub record ReadsNew (old : Reading State Call) (entry : Tagged Call) (replies : List Reply) (new : Reading State Call) : Type 0 where
-    pub counts : Counts (number_in old.numbers) entry
+  -- the calls of an entry are decided one after another, and its number is then the last one of its seat
+  pub record DecidesEntry (old : Reading State Call) (entry : Tagged Call) (replies : List Reply) (new : Reading State Call) : Type 0 where
     pub decided : AreDecided object old.history entry.seat entry.calls replies new.history
     pub last : (seat : ℕ) → number_in new.numbers seat ≡ (if seat == entry.seat then entry.number else number_in old.numbers seat)
+
+  -- an entry that counts is read
+  pub record ReadsNew (old : Reading State Call) (entry : Tagged Call) (replies : List Reply) (new : Reading State Call) : Type 0 where
+    pub counts : Counts (number_in old.numbers) entry
+    pub decides : DecidesEntry old entry replies new
 
   -- an entry whose tag counted before is skipped
   pub record PassesOver (old : Reading State Call) (entry : Tagged Call) (replies : List Reply) (new : Reading State Call) : Type 0 where

@@ -1,5 +1,5 @@
 //! The laws of readers and members of one log.
-ghost use Rattle.camp_member.specs.Laws.{AcceptedOnce, EachTagCountsOnce, FindsOn, AdvancesAnyhow, AdvancesOn, NobodyIsBusy, NothingIsRead, ReadersAgree, ReadersShareOneHistory, ReadsOn, StopsAtForeign};
+ghost use Rattle.camp_member.specs.Laws.{AcceptedOnce, CountedAreSnapshot, EachTagCountsOnce, FindsOn, AdvancesAnyhow, AdvancesOn, NobodyIsBusy, NothingIsRead, NothingIsRestored, ReadersAgree, ReadersShareOneHistory, ReadsOn, RestoresOn, SnapshotStandsForLog, StopsAtForeign};
 ghost use Rattle.camp_object.specs.Objects.{begun};
 
 use camp_object::Object;
@@ -21,6 +21,15 @@ pub fn each_tag_counts_once<State: Object>()
 pub fn readers_share_one_history<State: Object>()
     ensures agree { (first : State) → ReadersAgree (begun State.object first) }
     ensures law { (first : State) → ReadersShareOneHistory (begun State.object first) }
+{}
+
+/// A reader that was restored from a snapshot of a log has read that log, so all that holds of readers holds of it. The
+/// entries of a log that count are a snapshot of it.
+pub fn snapshots_stand_for_the_log<State: Object>()
+    ensures starts { (first : State) → NothingIsRestored (begun State.object first) }
+    ensures goes_on { (first : State) → RestoresOn (begun State.object first) }
+    ensures stands { (first : State) → SnapshotStandsForLog (begun State.object first) }
+    ensures counted { (first : State) → CountedAreSnapshot (begun State.object first) }
 {}
 
 /// A member has read the lawful part of its log: it reads each entry that it finds after those before it.

@@ -11,13 +11,14 @@ mod notes;
 mod numbers;
 mod readers;
 mod requests;
+mod restoring;
 mod wanting;
 
 pub use entries::{Entry, MAX_CALLS};
 pub use faults::ReadFault;
 pub use laws::{
     each_tag_counts_once, members_are_answered_once, members_follow_the_log,
-    readers_follow_the_log, readers_share_one_history,
+    readers_follow_the_log, readers_share_one_history, snapshots_stand_for_the_log,
 };
 pub use members::Member;
 pub use notes::{NotedCall, Noting};

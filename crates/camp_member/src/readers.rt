@@ -1,5 +1,5 @@
 //! A reader of a log: it decides the calls of each entry, and each tag only once.
-ghost use Rattle.std.specs.Prelude.{◌≡◌, ◌+◌, ◌<◌, ◌^◌, ◌⊎◌, ℕ, [], true, None, Some, MatchOption, length, IfOk, IfErr, OnErr, IfSome, OnOk, IsSome};
+ghost use Rattle.std.specs.Prelude.{◌≡◌, ◌↔◌, ◌+◌, ◌<◌, ◌^◌, ◌⊎◌, ℕ, [], true, None, Some, MatchOption, length, IfOk, IfErr, OnErr, IfSome, IsTrue, OnOk, IsSome};
 ghost use Rattle.std.specs.Option.{unwrap_or};
 ghost use Rattle.camp_object.specs.Histories.{IsAccepted, IsAnswered, IsLegal, replay};
 ghost use Rattle.camp_object.specs.Objects.{IsFirst, begun};
@@ -45,9 +45,10 @@ impl<State: Object> Model for Reader<State> {
 }
 
 impl<State: Object> Reader<State> {
-    ghost use Rattle.camp_member.specs.Entries.{Counts, number_in};
+    ghost use Rattle.camp_member.specs.Entries.{number_in};
     ghost use Rattle.camp_member.specs.Inside.Standings.{IsStanding};
-    ghost use Rattle.camp_member.specs.Readings.{IsReadFault, ReadsNew, ReadsEntry};
+    ghost use Rattle.camp_member.specs.Readings.{DecidesEntry, IsReadFault, ReadsEntry};
+    ghost use Rattle.camp_member.specs.Snapshots.{CanFollow, IsRestoreFault, RestoresEntry};
 
     /// Makes a reader that has read nothing. Its history begins with this initial state.
     pub fn new(alloc: Global, first: State) -> Reader<State>
@@ -143,9 +144,9 @@ impl<State: Object> Reader<State> {
             return Err(ReadFault::Foreign { index });
         };
         match self.standing(entry) {
-            Standing::New => Ok(self.decide(alloc, entry)?),
+            Standing::New => Ok(self.decide(alloc, index, entry)?),
             Standing::Repeated => {
-                self.index = self.next_index()?;
+                self.index = index_after(index)?;
                 Ok(Vec::new(alloc))
             }
             Standing::Foreign => Err(ReadFault::Foreign { index }),
@@ -169,26 +170,54 @@ impl<State: Object> Reader<State> {
         Standing::Foreign
     }
 
-    // Returns the index after the next one; an overflow is reported as out of memory.
-    fn next_index(&self) -> Result<usize, AllocError>
-        ensures { IfOk result (λ next. next ≡ self.now.index + 1) }
+    /// Restores what a snapshot of the log has at an index: an entry, or `None` if there is no entry there. Entries
+    /// before it may be missing, so its number may be any that is greater than the last of its seat. The reader goes on
+    /// after that index. After a fault the reader is unchanged.
+    pub fn restore(
+        &mut self,
+        alloc: Global,
+        index: usize,
+        found: &Option<Entry<State::Call>>,
+    ) -> Result<(), ReadFault>
+        ensures restores { IfOk result (λ _. IfSome found.now (λ entry. RestoresEntry (begun State.object self.old.first) index self.old entry self.new)) }
+        ensures some { IfOk result (λ _. IsSome found.now) }
+        ensures first { self.new.first ≡ self.old.first }
+        ensures stays { OnErr result (self.new ≡ self.old) }
+        ensures fault { IfErr result (IsRestoreFault self.old index found.now) }
     {
-        self.index.checked_add(1).ok_or(AllocError)
+        if index < self.index {
+            return Err(ReadFault::OutOfOrder { index: self.index });
+        }
+        let Some(entry) = found else {
+            return Err(ReadFault::Foreign { index });
+        };
+        if !self.can_follow(entry) {
+            return Err(ReadFault::Foreign { index });
+        }
+        self.decide(alloc, index, entry)?;
+        Ok(())
     }
 
-    // Decides the calls of an entry that counts.
+    // True if the entry can follow in a snapshot.
+    fn can_follow(&self, entry: &Entry<State::Call>) -> bool
+        ensures { IsTrue result ↔ CanFollow (number_in self.now.numbers) (Some entry.now) }
+    {
+        entry.is_entry() && number_of(&self.numbers, entry.seat()) < entry.number()
+    }
+
+    // Decides the calls of an entry at an index.
     fn decide(
         &mut self,
         alloc: Global,
+        index: usize,
         entry: &Entry<State::Call>,
     ) -> Result<Vec<State::Reply>, AllocError>
-        requires { Counts (number_in self.old.numbers) entry.now }
         ensures first { self.new.first ≡ self.old.first }
-        ensures index { OnOk result (self.new.index ≡ self.old.index + 1) }
-        ensures reads { IfOk result (λ replies. ReadsNew (begun State.object self.old.first) self.old entry.now replies.items self.new) }
+        ensures index { OnOk result (self.new.index ≡ index + 1) }
+        ensures decides { IfOk result (λ replies. DecidesEntry (begun State.object self.old.first) self.old entry.now replies.items self.new) }
         ensures stays { OnErr result (self.new ≡ self.old) }
     {
-        let next = self.next_index()?;
+        let next = index_after(index)?;
         let before = self.history.len() as u64;
         let (seat, number) = (entry.seat(), entry.number());
         let draft = Draft::of_calls(alloc, &self.state, before, seat, entry.calls())?;
@@ -204,6 +233,13 @@ impl<State: Object> Reader<State> {
         self.index = next;
         Ok(replies)
     }
+}
+
+// Returns the index after this one; an overflow is reported as out of memory.
+fn index_after(index: usize) -> Result<usize, AllocError>
+    ensures { IfOk result (λ next. next ≡ index + 1) }
+{
+    index.checked_add(1).ok_or(AllocError)
 }
 
 // Replaces a state by the next one, if there is one.

@@ -3,6 +3,7 @@ pub mod FindLemmas
 pub mod FitLemmas
 pub mod KeepLemmas
 pub mod ReadLemmas
+pub mod RestoreLemmas
 pub mod RoomLemmas
 pub mod TextLemmas
 pub mod WantLemmas

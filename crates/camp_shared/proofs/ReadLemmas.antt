@@ -27,7 +27,7 @@ use Rattle.camp_shared.proofs.CountLemmas.{again_adds_none, readable_first}
 use Rattle.camp_shared.proofs.TextLemmas.{Entries, entries_begin, entries_halves, entries_len, entries_push, entries_split, last_entry, next_entry, same_log}
 
 -- a title has limits once
-same_limits : (title : List ℕ) (one two : Bounds) → IsLogTitle title one → IsLogTitle title two → one ≡ two
+pub same_limits : (title : List ℕ) (one two : Bounds) → IsLogTitle title one → IsLogTitle title two → one ≡ two
 same_limits title one two first (are, inr plain) = plain_is title plain.0 one first ∙ sym plain.1
 same_limits title one two (are, inr plain) (others, inl named) = plain.1 ∙ sym (plain_is title plain.0 two (others, inl named))
 same_limits title one two (are, inl named) (others, inl named_two) = λ i. record { catches = catches_same i; branches = branches_same i }

@@ -5,6 +5,7 @@ use Rattle.camp_entries.specs.Texts.{CanBeLogged, IsEntryOf, IsNoted, noted_text
 use Rattle.camp_member.specs.Entries.{Tagged, IsForeign, number_in}
 use Rattle.camp_member.specs.Members.{stopped}
 use Rattle.camp_member.specs.Notes.{WithNote, noting}
+use Rattle.camp_member.specs.Snapshots.{CanFollow, IsOfSeat, RestoresOther}
 use Rattle.camp_member.specs.Wanting.{AfterEnd, FindsEntry, IsAlien, IsNeeded, WantsOfLog}
 use Rattle.camp_member.specs.declared.faults.ReadFault.{ReadFault}
 use Rattle.camp_member.specs.declared.faults.ReadFault.TheVariants as read
@@ -64,6 +65,25 @@ FindsText old index text (Err (read.OutOfOrder next)) new = (next ≡ old.readin
 FindsText old index text (Err (read.Foreign at)) new =
     (index ≡ old.reading.index + 1)
     × ((found : Option (Tagged (WithNote Call))) × IsEntryOf text found × ReadsNextEntry old index found (Err (read.Foreign at)) new)
+
+-- the entry parsed at an index of a snapshot is restored; after a fault the member is unchanged
+abbrev pub RestoresParsed : Sharing → ℕ → Option (Tagged (WithNote Call)) → Result (Unit {0}) ReadFault → Sharing → Type 0
+RestoresParsed old index found (Ok done) new =
+    (old.is_stopped ≡ false) × IfSome found (λ entry. RestoresOther (shared_from old.reading.first) (index - 1) old entry new) × IsSome found
+RestoresParsed old index found (Err read.Memory) new = new ≡ old
+RestoresParsed old index found (Err (read.OutOfOrder next)) new = ⊥
+RestoresParsed old index found (Err (read.Foreign at)) new =
+    (at ≡ index) × (new ≡ old)
+    × ((old.is_stopped ≡ true) ⊎ IsOfSeat old.seat found ⊎ ¬ (CanFollow (number_in old.reading.numbers) found))
+
+-- the text that a snapshot has at an index of the log is restored; after a fault the member is unchanged
+abbrev pub RestoresText : Sharing → ℕ → List ℕ → Result (Unit {0}) ReadFault → Sharing → Type 0
+RestoresText old index text (Ok done) new =
+    (old.reading.index < index) × ((found : Option (Tagged (WithNote Call))) × IsEntryOf text found × RestoresParsed old index found (Ok done) new)
+RestoresText old index text (Err read.Memory) new = new ≡ old
+RestoresText old index text (Err (read.OutOfOrder next)) new = (next ≡ old.reading.index + 1) × (index < next) × (new ≡ old)
+RestoresText old index text (Err (read.Foreign at)) new =
+    (old.reading.index < index) × ((found : Option (Tagged (WithNote Call))) × IsEntryOf text found × RestoresParsed old index found (Err (read.Foreign at)) new)
 
 -- the log ends at an index, which counts from the title
 abbrev pub EndsTexts : Sharing → ℕ → Sharing → Type 0

@@ -1,5 +1,5 @@
 -- Laws of members of a log of texts: its title, and then the texts of entries.
-use Rattle.std.specs.Prelude.{◌≡◌, ◌+◌, ◌≤◌, ◌⊎◌, ℕ, List, [], ◌∷◌, ◌++◌, length, Option, Some, Ok, Err}
+use Rattle.std.specs.Prelude.{◌≡◌, ◌+◌, ◌≤◌, ◌⊎◌, ℕ, List, [], ◌∷◌, ◌++◌, length, map, Option, Some, Ok, Err}
 use Rattle.camp_call.specs.declared.calls.Call.{Call}
 use Rattle.camp_entries.specs.Texts.{IsEntryOf}
 use Rattle.camp_entries.specs.Titles.{IsLogTitle}
@@ -7,12 +7,13 @@ use Rattle.camp_member.specs.Entries.{Tagged, IsForeign, number_in}
 use Rattle.camp_member.specs.Laws.{AnyReason}
 use Rattle.camp_member.specs.Notes.{WithNote}
 use Rattle.camp_member.specs.Readings.{IsReadingOf, Reading}
+use Rattle.camp_member.specs.Snapshots.{IsRestoredFrom, IsSnapshotOf}
 use Rattle.camp_member.specs.Telling.{MemberAdvances, accepted_in}
 use Rattle.camp_member.specs.declared.faults.ReadFault.{ReadFault}
 use Rattle.camp_object.specs.Histories.{IsBeginning, own}
 use Rattle.camp_repo.specs.Limits.{Bounds}
 use Rattle.camp_repo.specs.States.{Contents, new_within}
-use Rattle.camp_shared.specs.Asking.{FindsText}
+use Rattle.camp_shared.specs.Asking.{FindsText, RestoresText}
 use Rattle.camp_shared.specs.Sharing.{Sharing, IsOpenedLog, shared_from}
 
 -- the entries of texts, in the same order: for each text the entry that has it, or none
@@ -30,6 +31,26 @@ pub record HasReadTexts (title : List ℕ) (texts : List (List ℕ)) (reading : 
   pub log : List (Option (Tagged (WithNote Call)))
   pub entries : AreEntriesOf texts log
   pub reads : IsReadingOf (shared_from reading.first) log reading
+
+-- what was restored of a log with this title from these texts of a snapshot: this many entries of the log come before the
+-- next one
+pub record HasRestoredTexts (title : List ℕ) (kept : List (List ℕ)) (count : ℕ) (reading : Reading Contents (WithNote Call)) : Type 0 where
+  pub limits : Bounds
+  pub titled : IsLogTitle title limits
+  pub first : reading.first ≡ new_within limits
+  pub entries : List (Tagged (WithNote Call))
+  pub have : AreEntriesOf kept (map (λ entry. Some entry) entries)
+  pub restored : IsRestoredFrom (shared_from reading.first) entries count reading
+
+-- the entries of these texts are a snapshot of the log with this title and those texts
+pub record IsSnapshotOfTexts (title : List ℕ) (texts kept : List (List ℕ)) : Type 0 where
+  pub limits : Bounds
+  pub titled : IsLogTitle title limits
+  pub log : List (Option (Tagged (WithNote Call)))
+  pub are : AreEntriesOf texts log
+  pub entries : List (Tagged (WithNote Call))
+  pub have : AreEntriesOf kept (map (λ entry. Some entry) entries)
+  pub snapshot : IsSnapshotOf (shared_from (new_within limits)) log entries
 
 -- the text is that of an entry with this tag
 abbrev pub HasTag : ℕ → ℕ → List ℕ → Type 0
@@ -58,6 +79,23 @@ NobodyReadsOn =
     (title : List ℕ) (texts rest : List (List ℕ)) (text : List ℕ) (found : Option (Tagged (WithNote Call))) (one two : Reading Contents (WithNote Call))
     → HasReadTexts title texts one → IsEntryOf text found → IsForeign (number_in one.numbers) found
     → ¬ (HasReadTexts title (texts ++ text ∷ rest) two)
+
+-- a newly opened member was restored from no text
+abbrev pub OpensRestored : Type 0
+OpensRestored = (title : List ℕ) (seat : ℕ) (member : Sharing) → IsOpenedLog title seat member → HasRestoredTexts title [] 0 member.reading
+
+-- a member that restores one more text was restored from that text, too
+abbrev pub RestoresTextsInOrder : Type 0
+RestoresTextsInOrder =
+    (title : List ℕ) (kept : List (List ℕ)) (count : ℕ) (old new : Sharing) (index : ℕ) (text : List ℕ)
+    → HasRestoredTexts title kept count old.reading → RestoresText old index text (Ok tt) new
+    → HasRestoredTexts title (kept ++ text ∷ []) index new.reading
+
+-- a member that was restored from a snapshot of some texts, and goes on after them, has read these texts
+abbrev pub SnapshotStandsForTexts : Type 0
+SnapshotStandsForTexts =
+    (title : List ℕ) (texts kept : List (List ℕ)) (reading : Reading Contents (WithNote Call))
+    → IsSnapshotOfTexts title texts kept → HasRestoredTexts title kept (length texts) reading → HasReadTexts title texts reading
 
 -- a text with the tag of a text before it adds nothing to the history, so each tag counts once
 abbrev pub SameTagAddsNothing : Type 0

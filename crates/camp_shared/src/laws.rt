@@ -1,5 +1,5 @@
 //! What holds of members of one log of texts.
-ghost use Rattle.camp_shared.specs.Laws.{AcceptedAreAnswered, FindsTextsInOrder, KeepsWhatWasRead, MembersShareOneHistory, MoreTextsGiveMore, NobodyReadsOn, OpensAtTitle, SameTagAddsNothing, SameTextsAgree};
+ghost use Rattle.camp_shared.specs.Laws.{AcceptedAreAnswered, FindsTextsInOrder, KeepsWhatWasRead, MembersShareOneHistory, MoreTextsGiveMore, NobodyReadsOn, OpensAtTitle, OpensRestored, RestoresTextsInOrder, SameTagAddsNothing, SameTextsAgree, SnapshotStandsForTexts};
 
 /// The history of a member is the lawful part of the entries of the texts that it found, from a new repository
 /// with the limits of the title; all members stop at the first text that is foreign.
@@ -8,6 +8,13 @@ pub fn members_follow_the_texts()
     ensures goes_on { FindsTextsInOrder }
     ensures keeps { KeepsWhatWasRead }
     ensures stops { NobodyReadsOn }
+{}
+
+/// A member that was restored from a snapshot of a log has read that log, so all that holds of members holds of it.
+pub fn snapshots_stand_for_the_texts()
+    ensures opens { OpensRestored }
+    ensures goes_on { RestoresTextsInOrder }
+    ensures stands { SnapshotStandsForTexts }
 {}
 
 /// Of several texts with one tag only the first in the log counts, wherever the others are.

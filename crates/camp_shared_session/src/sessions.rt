@@ -5,7 +5,7 @@ ghost use Rattle.camp_member.specs.Telling.{MemberAdvances};
 ghost use Rattle.camp_member.specs.Wanting.{IsStopped};
 ghost use Rattle.camp_member.specs.declared.requests.NoReply.TheVariants as no_reply;
 ghost use Rattle.camp_object.specs.Histories.{replay};
-ghost use Rattle.camp_shared.specs.Asking.{AsksText, EndsTexts, FindsText};
+ghost use Rattle.camp_shared.specs.Asking.{AsksText, EndsTexts, FindsText, RestoresText};
 ghost use Rattle.camp_shared.specs.Sharing.{IsNotOpened, shared_from};
 ghost use Rattle.camp_shared_session.specs.Sessions.{IsOpenedSession, IsRenderedAnswer, IsSplitWant, KeepsOutput, RendersCall, ReturnsWant, TakesAnswer};
 
@@ -114,6 +114,17 @@ impl SharedSession {
         ensures keeps { KeepsOutput self.old self.new }
     {
         self.shared.found(alloc, index, text)
+    }
+
+    /// Restores the text that a snapshot of the log has at an index, in order; the title has index 0. Entries before it
+    /// may be missing. The member goes on after that index. A text that is no entry, or one of this seat, is foreign, and
+    /// so is all after the member has stopped. After a fault the member is unchanged.
+    pub fn restore(&mut self, alloc: Global, index: usize, text: &[u8]) -> Result<(), ReadFault>
+        ensures restores { RestoresText self.old.member index text.now result self.new.member }
+        ensures goes { MemberAdvances (shared_from self.old.member.reading.first) (λ _ _. ⊥) self.old.member self.new.member }
+        ensures keeps { KeepsOutput self.old self.new }
+    {
+        self.shared.restore(alloc, index, text)
     }
 
     /// Reports that the log has refused the entry under way, which will never be in it: its requests get no reply, for

@@ -4,9 +4,9 @@ use Rattle.camp_object.specs.Histories.{replay}
 use Rattle.camp_object.specs.Objects.{IsFirst, begun}
 use Rattle.camp_object.proofs.Replays.{begun_lawful, count-replay, replay_began}
 use Rattle.camp_member.specs.Decisions.{AreDecided}
-use Rattle.camp_member.specs.Entries.{Counts, number_in}
+use Rattle.camp_member.specs.Entries.{number_in}
 use Rattle.camp_member.specs.Inside.Drafts.{Drafted, DraftsAll}
-use Rattle.camp_member.specs.Readings.{Reading, ReadsNew}
+use Rattle.camp_member.specs.Readings.{DecidesEntry, Reading}
 use Rattle.camp_member.proofs.readers.Reader.decide.Given.{Over}
 use Rattle.camp_member.proofs.readers.Reader.decide.Goals as goal
 
@@ -47,18 +47,16 @@ invariant_of-self-2 g c =
 pub returns-clause-first : goal.returns-clause-first
 returns-clause-first g c = same_first g c ∙ ap (λ (r : Reading g.row.State.Denot g.row.State-Call.Denot). r.first) c.self.view_is
 
-pub returns-clause-reads : goal.returns-clause-reads
-returns-clause-reads g c =
+pub returns-clause-decides : goal.returns-clause-decides
+returns-clause-decides g c =
     let object = g.State.Object.object in
     let R = Reading g.row.State.Denot g.row.State-Call.Denot in
     let new : R = record { first = object.first c.advance.new.state; index = c.in_ok-next.next; history = c.append.new.self.items; numbers = c.set_number.new.numbers.entries } in
-    let P : R → Type 0 = λ old. ReadsNew (begun object old.first) old c.args.entry.now c.draft.inside.replies.items new in
-    let C : R → Type 0 = λ old. Counts (number_in old.numbers) c.args.entry.now in
+    let P : R → Type 0 = λ old. DecidesEntry (begun object old.first) old c.args.entry.now c.draft.inside.replies.items new in
     let history = c.self.inside.history.items in
     let T : ℕ × List g.row.State-Call.Denot × List (ℕ × g.row.State-Call.Denot) → Type 0 =
     λ t. AreDecided (begun object (object.first c.self.inside.state)) history t.0 t.1 c.draft.inside.replies.items t.2 in
     subst P c.self.view_is (record {
-      counts = subst C (sym c.self.view_is) c.requires;
       decided = subst T (λ i. (c.seat-seat.ensures.exact i, c.calls.ensures.exact i, sym (items g c) i)) (drafted g c).1;
       last = λ seat. c.in_ok-set_number.ensures.set seat
           ∙ (λ i. if seat == c.seat-seat.ensures.exact i then c.number-number.ensures.exact i else number_in c.self.inside.numbers.entries seat);
