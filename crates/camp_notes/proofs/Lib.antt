@@ -1,0 +1,5 @@
+mod LineLemmas
+mod MapLemmas
+mod ParseLemmas
+mod TextLemmas
+mod TitleLemmas
