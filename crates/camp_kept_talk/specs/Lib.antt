@@ -1,5 +1,2 @@
-pub mod Buffering
+pub mod Conversations
 pub mod Laws
-pub mod Promises
-pub mod Serving
-pub mod Stopping

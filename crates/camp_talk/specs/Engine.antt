@@ -1,4 +1,4 @@
-pub mod Backends
+pub mod Commands
 pub mod Framings
 pub mod Groups
 pub mod Runs

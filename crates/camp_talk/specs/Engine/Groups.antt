@@ -24,7 +24,7 @@ HasSteps [] = ⊥
 HasSteps (step ∷ steps) = Unit {0}
 
 -- given the relations of a backend and of a framing
-module _ {B F Q A E H : Type 0} (backend : backends.Ghosts B Q A E) (framing : framings.Ghosts F Q A H) where
+module _ {B F Q A E C H : Type 0} (backend : backends.Ghosts B Q A E C) (framing : framings.Ghosts F Q A H) where
   -- a request was read, and then executed with this result
   pub record Executes (before : B) (from : F) (request : Q) (bytes : List ℕ) (result : Result A E) (after : B) (to : F) : Type 0 where
     pub reads : framing.reads from request bytes to

@@ -30,7 +30,7 @@ pub(crate) enum Halt<B, F> {
 
 /// Reads and executes requests and buffers their responses, as long as a complete request was read ahead and little is
 /// pending. The first request is read in any case.
-pub(crate) fn gather<Q: Drop, A: Drop, B: Backend<Q, A>, F: Framing<Q, A>>(
+pub(crate) fn gather<Q, A: Drop, B: Backend<Q, A>, F: Framing<Q, A>>(
     backend: &mut B,
     framing: &mut F,
     pending: &mut Vec<u8>,
@@ -55,7 +55,7 @@ pub(crate) fn gather<Q: Drop, A: Drop, B: Backend<Q, A>, F: Framing<Q, A>>(
 }
 
 // Reads and executes a request, and buffers its response. If the group has ended, returns why.
-fn take_one<Q: Drop, A: Drop, B: Backend<Q, A>, F: Framing<Q, A>>(
+fn take_one<Q, A: Drop, B: Backend<Q, A>, F: Framing<Q, A>>(
     backend: &mut B,
     framing: &mut F,
     pending: &mut Vec<u8>,
@@ -67,7 +67,7 @@ fn take_one<Q: Drop, A: Drop, B: Backend<Q, A>, F: Framing<Q, A>>(
         Ok(None) => return Some(Halt::End),
         Err(why) => return Some(Halt::Read(why)),
     };
-    let response = match backend.execute(&request) {
+    let response = match backend.execute(request) {
         Ok(response) => response,
         Err(why) => return Some(Halt::Execute(why)),
     };

@@ -1,60 +1,10 @@
-//! A conversation with a person at a terminal: a prompt asks for each line.
-ghost use Rattle.std.specs.Prelude.{◌-◌, ◌^◌};
-
-use camp_talk::{Book, Diagnostic, Dialogue, State, TalkFault, take_step};
+//! Prompts for a person at a terminal: one asks for each line.
 use std::alloc::Global;
 use std::io::{self, BufRead, Read, Write};
 
 /// The text before the first prompt.
 const GREETING: &[u8] =
     b"camp keeps branches of named patches. help lists the commands, why explains the last fault or refusal; end ends a body, done a group, quit the session.\n";
-
-/// A conversation with prompts.
-#[derive(Drop)]
-pub(crate) struct Prompted<R, W> {
-    alloc: Global,
-    book: Book<State>,
-    /// The number of lines that were read.
-    lines: u64,
-    /// The diagnostic of the last fault or refusal.
-    diagnostic: Diagnostic,
-    reader: Prompting<R, W>,
-    writer: W,
-}
-
-impl<R: BufRead, W: Write> Prompted<R, W> {
-    /// Starts before the first command. Prompts and answers go to writers of one output.
-    pub(crate) fn new(alloc: Global, book: Book<State>, reader: R, prompts: W, writer: W) -> Self {
-        Prompted {
-            alloc,
-            book,
-            lines: 0,
-            diagnostic: Diagnostic::new(),
-            reader: Prompting::new(alloc, reader, prompts),
-            writer,
-        }
-    }
-}
-
-impl<R: BufRead, W: Write> Dialogue for Prompted<R, W> {
-    type Fault = TalkFault;
-
-    ghost step_relation = { λ _ _ _. Unit {0} };
-
-    ghost left = { λ it. 2 ^ 64 - it.lines };
-
-    fn take_step(&mut self) -> Result<bool, TalkFault> {
-        self.reader.begin();
-        take_step(
-            self.alloc,
-            &mut self.book,
-            &mut self.lines,
-            &mut self.diagnostic,
-            &mut self.reader,
-            &mut self.writer,
-        )
-    }
-}
 
 /// The kind of the next line.
 #[derive(Clone, Copy, Drop)]
