@@ -16,7 +16,7 @@ has_steps : {X : Type 0} (steps : List X) (count : ℕ) → length steps ≡ cou
 has_steps [] count counted = absurd (omega (arith, counted))
 has_steps (step ∷ steps) count counted = tt
 
-module _ {B F Q A E H : Type 0} (backend : backends.Ghosts B Q A E) (framing : framings.Ghosts F Q A H) (limits : GroupLimits) where
+module _ {B F Q A E C H : Type 0} (backend : backends.Ghosts B Q A E C) (framing : framings.Ghosts F Q A H) (limits : GroupLimits) where
   is_over : (why : Halt E H) (steps : List (Step Q A)) (fact : Type 0) → IsNoPause backend framing why → IfSteps steps fact → IsOver backend framing why steps fact
   is_over halt.Pause steps fact no_pause holds = absurd no_pause
   is_over halt.End steps fact no_pause holds = holds

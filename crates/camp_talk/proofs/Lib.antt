@@ -18,10 +18,8 @@ pub mod Parts
 pub mod QuestionWords
 pub mod RequestLemmas
 pub mod RunLemmas
-pub mod Served
 pub mod Skipped
 pub mod AnswerLemmas
-pub mod LeadsLemmas
 pub mod StepLemmas
 pub mod ViewLemmas
 pub mod VisibleLemmas

@@ -1,5 +1,5 @@
-//! The laws of answers: counts, failures, diagnostics, requests, and loading the output of `keep`.
-ghost use Rattle.camp_talk.specs.Laws.{CausesAreReported, CountsMatchLines, FailuresAreReported, FaultsAreDescribed, KeepRestoresHistory, RecoveryFollowsCutOff, RefusalsAreDescribed, RequestsAreServedInTurn, UnservedBytesHaveNoFrame};
+//! The laws of answers: counts, failures, diagnostics, frames, and loading the output of `keep`.
+ghost use Rattle.camp_talk.specs.Laws.{CausesAreReported, CountsMatchLines, FailuresAreReported, FaultsAreDescribed, KeepRestoresHistory, RecoveryFollowsCutOff, RefusalsAreDescribed, UnservedBytesHaveNoFrame};
 ghost use Rattle.camp_talk.specs.Visible.{ShownBytesArePrintable};
 
 /// The first line of a counted answer gives the number of lines that follow.
@@ -12,13 +12,6 @@ pub fn counts_match_lines()
 #[tactic(auto, using(crate::proofs::Failing::failures_are_reported))]
 pub fn failures_are_reported()
     ensures law { FailuresAreReported }
-{}
-
-/// If requests are served one after the other, the n-th answer that was written is that of the n-th request that was
-/// read, executed after the requests before it.
-#[tactic(auto, using(crate::proofs::Served::served_in_turn))]
-pub fn requests_are_served_in_turn()
-    ensures law { RequestsAreServedInTurn }
 {}
 
 /// `load` restores a history from the output of `keep` or `kept_text`: its calls are accepted again and lead to its

@@ -1,7 +1,8 @@
 //! One command of a conversation: it is read and executed.
-ghost use Rattle.std.specs.Prelude.{◌≡◌, ◌+◌, IfOk, IfErr};
-ghost use Rattle.camp_talk.specs.Engine.Commands.{ExecutesCommand};
-ghost use Rattle.camp_talk.specs.Inside.ExecutingNext.{ExecutesNext};
+ghost use Rattle.std.specs.Prelude.{◌≡◌, ◌+◌, ℕ, List, length, IfOk, IfErr};
+ghost use Rattle.camp_script.specs.Lines.{lines_of};
+ghost use Rattle.camp_talk.specs.Engine.Commands.{ExecutesCommand, IsReadAs};
+ghost use Rattle.camp_talk.specs.Inside.ExecutingNext.{ExecutesNext, IsResponse};
 ghost use Rattle.camp_talk.specs.Talks.{ReadsNone};
 
 use crate::answers::respond;
@@ -68,8 +69,11 @@ pub fn execute_command(
     diagnostic: &mut Diagnostic,
     command: Command,
 ) -> Result<Response, TalkFault>
-    ensures { ExecutesCommand (record { history = book.old; lines = lines.old; diagnostic = diagnostic.old }) command
+    ensures executes { ExecutesCommand (record { history = book.old; lines = lines.old; diagnostic = diagnostic.old }) command
         result (record { history = book.new; lines = lines.new; diagnostic = diagnostic.new }) }
+    ensures responds { IfOk result (λ response. (bytes : List ℕ) → IsReadAs command bytes
+        → IsResponse (record { history = book.old; lines = lines.old; diagnostic = diagnostic.old }) bytes response book.new diagnostic.new) }
+    ensures counts { IfOk result (λ response. lines.new ≡ lines.old + length (lines_of command.bytes.items)) }
 {
     let Some(after) = lines.checked_add(count_lines(&command.bytes)) else {
         drop(command);
