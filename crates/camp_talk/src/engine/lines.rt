@@ -1,6 +1,7 @@
 //! Commands in lines: each is a line, with the lines of its body or group.
-ghost use Rattle.std.specs.Prelude.{◌≡◌, ◌++◌, true, List, IfErr, IfOk, MatchOption, OnErr, OnOk, ℕ};
+ghost use Rattle.std.specs.Prelude.{◌≡◌, ◌++◌, None, false, true, List, IfErr, IfOk, OnErr, OnOk, ℕ};
 ghost use Rattle.std.specs.Io.Buffered.{reader_remaining};
+ghost use Rattle.std.specs.Io.KnownBytes.{Consumes};
 ghost use Rattle.camp_talk.specs.Engine.Commands.{BreaksBefore, ReadsNextCommand};
 ghost use Rattle.camp_talk.specs.Inside.Responses.{written};
 
@@ -131,7 +132,8 @@ fn next_command<R: BufRead>(
 ) -> Result<Command, TalkFault>
     requires { is_ended.old ≡ false }
     ensures reads { IfOk result (λ command. (bytes : List ℕ)
-        × ReadsNextCommand (R.remaining reader.old) (R.remaining reader.new) is_ended.old command bytes is_ended.new) }
+        × ReadsNextCommand (R.remaining reader.old) (R.remaining reader.new) is_ended.old command bytes is_ended.new
+        × Consumes (R.remaining reader.old) (R.remaining reader.new) bytes) }
     ensures breaks { IfErr result (BreaksBefore (R.remaining reader.old) (R.remaining reader.new)) }
 {
     let command = read_command(alloc, reader)?;

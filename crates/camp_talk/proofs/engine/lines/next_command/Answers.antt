@@ -1,4 +1,5 @@
 use Rattle.camp_talk.proofs.Words.{◌≡◌, List, ℕ, Ok, refl, true, subst, rules, Gives, first_of, is_skipped, words_of, parsed_lines}
+use Rattle.camp_talk.proofs.Firsts.{command_read}
 use Rattle.camp_talk.specs.declared.questions.ParsedCommand.TheVariants as parsed
 use Rattle.camp_talk.proofs.engine.lines.next_command.Goals as goal
 
@@ -17,4 +18,5 @@ returns-clause-reads g c =
         };
         last = search rules;
       },
+      command_read _ _ command.is_whole read.command read.reads,
     )

@@ -1,0 +1,2 @@
+pub mod Persisting
+pub mod Promising

@@ -1,0 +1,224 @@
+-- Conversations over a durable repository keep their promises.
+use Rattle.std.proofs.Common.{◌≡◌, ℕ, ◌-◌, ◌^◌, Bool, false, List, [], ◌∷◌, ◌++◌, length, Option, None, Some, Result, Ok, Err, flat_map, append-nil, refl, sym, ◌∙◌, ap, subst, arith}
+use Rattle.std.specs.Io.KnownBytes.{Appends, Keeps}
+use Rattle.camp_kept.specs.Accepting.{StoreContents}
+use Rattle.camp_kept.specs.Faults.{ReportsDiskFault}
+use Rattle.camp_kept.specs.Persisting.{accepted_by, disk_in, may_commit}
+use Rattle.camp_kept.specs.declared.faults.PersistenceFault.{PersistenceFault}
+use Rattle.camp_kept.specs.declared.repositories.DurableRepository.{DurableRepository}
+use Rattle.camp_kept_talk.proofs.Persisting.{commit_persists, share_persists}
+use Rattle.camp_kept_talk.specs.Conversations.{CommitsStore, MayLeave, Persists, SharesStore, stopped_fault}
+use Rattle.camp_kept_talk.specs.Laws.{IsOverStore, LeavesAnswered, ReportsFaultOf, StoresKeepPromises}
+use Rattle.camp_object.proofs.SameBooks.{earlier_self, earlier_through}
+use Rattle.camp_talk.specs.Engine.Groups.{ExecutesInOrder, Halts, RunsGroup, Step, responses}
+use Rattle.camp_talk.specs.Engine.Runs.{Commits, EndsAfterGroup, RunsAll, StopsAfterGroup, durable_after}
+use Rattle.camp_talk.specs.declared.engine.backends.Backend as backends
+use Rattle.camp_talk.specs.declared.engine.framings.Framing as framings
+use Rattle.camp_talk.specs.declared.engine.groups.GroupLimits.{GroupLimits}
+use Rattle.camp_talk.specs.declared.engine.groups.Halt.{Halt}
+use Rattle.camp_talk.specs.declared.engine.groups.Halt.TheVariants as halt
+use Rattle.camp_talk.specs.declared.engine.runs.Stop.{Stop}
+use Rattle.camp_talk.specs.declared.engine.runs.Stop.TheVariants as stop
+
+shares_self : {D : Type 0} (kept : DurableRepository D) → SharesStore kept kept
+shares_self kept = record { same = refl; grows = earlier_self kept.book }
+
+shares_through : {D : Type 0} (one two three : DurableRepository D) → SharesStore one two → SharesStore two three → SharesStore one three
+shares_through one two three first second = record {
+  same = second.same ∙ ap (λ kept. record kept { book = three.book }) first.same;
+  grows = earlier_through first.grows second.grows;
+}
+
+err_no_ok : {D : Type 0} (why : PersistenceFault) (result : Result (Unit {0}) PersistenceFault) (done : Unit {0}) → result ≡ Err why → result ≡ Ok done → ⊥
+err_no_ok why result done err ok = subst is_err (sym err ∙ ok) tt
+  where
+    is_err : Result (Unit {0}) PersistenceFault → Type 0
+    is_err (Ok done) = ⊥
+    is_err (Err why) = Unit {0}
+
+module _ {D : Type 0} (seen : D → List ℕ) (may_leave : D → List ℕ → Type 0) (faults : D → ℕ) (is_clean : D → Bool) {B F Q A E H : Type 0}
+    (backend : backends.Ghosts B Q A E PersistenceFault) (framing : framings.Ghosts F Q A H) (kept_of : B → DurableRepository D)
+    (over : IsOverStore seen may_leave faults is_clean backend kept_of) (limits : GroupLimits) where
+  shares_same : (one two : B) → one ≡ two → SharesStore (kept_of one) (kept_of two)
+  shares_same one two same = subst (λ (b : B). SharesStore (kept_of one) (kept_of b)) same (shares_self (kept_of one))
+
+  follows_share : (before : B) (from : F) (pending : List ℕ) (steps : List (Step Q A)) (after : B) (to : F)
+      → ExecutesInOrder backend framing limits before from pending steps after to → SharesStore (kept_of before) (kept_of after)
+  follows_share before from pending [] after to (same, more) = shares_same before after same
+  follows_share before from pending (step ∷ steps) after to (next, on, one, ahead, more) =
+      shares_through (kept_of before) (kept_of next) (kept_of after) (over.executes before step.request (Ok step.response) next one.executes)
+      (follows_share next on (pending ++ framing.renders step.response) steps after to more)
+
+  halts_share : (why : Halt E H) (middle : B) (at : F) (after : B) (to : F) → Halts backend framing middle at why after to → SharesStore (kept_of middle) (kept_of after)
+  halts_share halt.Pause middle at after to (same, more) = shares_same middle after same
+  halts_share halt.End middle at after to (same, more) = shares_same middle after same
+  halts_share (halt.Read why) middle at after to (same, more) = shares_same middle after same
+  halts_share (halt.Execute why) middle at after to fails = over.executes middle fails.request (Err why) after fails.is.executes
+  halts_share halt.Memory middle at after to loses = over.executes middle loses.step.request (Ok loses.step.response) after loses.is.executes
+
+  group_shares : (before : B) (from : F) (why : Halt E H) (after : B) (to : F) (text : List ℕ) → RunsGroup backend framing limits before from why after to text
+      → SharesStore (kept_of before) (kept_of after)
+  group_shares before from why after to text runs =
+      shares_through (kept_of before) (kept_of runs.middle) (kept_of after)
+      (follows_share before from [] runs.gathered.steps runs.middle runs.at runs.gathered.follows)
+      (halts_share why runs.middle runs.at after to runs.halts)
+
+  -- the disk of a repository whose book has changed
+  same_disk : (one two : DurableRepository D) → SharesStore one two → disk_in two ≡ disk_in one
+  same_disk one two shares = ap disk_in shares.same
+
+  still_stopped : (one two : DurableRepository D) → SharesStore one two → may_commit one ≡ false → may_commit two ≡ false
+  still_stopped one two shares stopped = ap may_commit shares.same ∙ stopped
+
+  -- ---- no commit is possible
+
+  no_commit : (before after : B) → may_commit (kept_of before) ≡ false → backend.commits before (Ok tt) after → ⊥
+  no_commit before after stopped commits =
+      err_no_ok {D = D} stopped_fault (Ok tt) tt ((over.commits before (Ok tt) after commits).stopped stopped).0 refl
+
+  no_group : (first : B) (from : F) (groups : List (List (Step Q A))) (last : B) (at : F) → Commits backend framing limits first from groups last at
+      → may_commit (kept_of first) ≡ false → (groups ≡ []) × (first ≡ last)
+  no_group first from [] last at (same, more) stopped = (refl, same)
+  no_group first from (steps ∷ groups) last at (executed, next, on, some, follows, committed, more) stopped =
+      absurd (no_commit executed next (still_stopped (kept_of first) (kept_of executed) (follows_share first from [] steps executed on follows) stopped) committed)
+
+  -- ---- faults of the disk
+
+  commit_counts : (before : B) (after : B) → backend.commits before (Ok tt) after → faults (disk_in (kept_of after)) ≡ faults (disk_in (kept_of before))
+  commit_counts before after commits = (over.commits before (Ok tt) after commits).counts
+
+  shares_counts : (one two : DurableRepository D) → SharesStore one two → faults (disk_in two) ≡ faults (disk_in one)
+  shares_counts one two shares = ap faults (same_disk one two shares)
+
+  groups_count : (first : B) (from : F) (groups : List (List (Step Q A))) (last : B) (at : F) → Commits backend framing limits first from groups last at
+      → faults (disk_in (kept_of last)) ≡ faults (disk_in (kept_of first))
+  groups_count first from [] last at (same, more) = ap (λ (b : B). faults (disk_in (kept_of b))) (sym same)
+  groups_count first from (steps ∷ groups) last at (executed, next, on, some, follows, committed, more) =
+      groups_count next on groups last at more ∙ commit_counts executed next committed
+      ∙ shares_counts (kept_of first) (kept_of executed) (follows_share first from [] steps executed on follows)
+
+  module _ (first : B) (from : F) (old : Option (List ℕ)) where
+    executed_counts : (why : Halt E H) (result : Result (Unit {0}) (Stop PersistenceFault E H)) (last : B) (to : F) (new : Option (List ℕ))
+        → (ends : EndsAfterGroup backend framing limits why result first from old last to new)
+        → faults (disk_in (kept_of ends.executed)) ≡ faults (disk_in (kept_of first))
+    executed_counts why result last to new ends =
+        shares_counts (kept_of ends.begun) (kept_of ends.executed) (group_shares ends.begun ends.at why ends.executed to ends.text ends.gathers)
+        ∙ groups_count first from ends.earlier.groups ends.begun ends.at ends.earlier.commits
+
+    committed_counts : (why : Halt E H) (result : Result (Unit {0}) (Stop PersistenceFault E H)) (last : B) (to : F) (new : Option (List ℕ))
+        → (ends : EndsAfterGroup backend framing limits why result first from old last to new) → backend.commits ends.executed (Ok tt) last
+        → faults (disk_in (kept_of last)) ≡ faults (disk_in (kept_of first))
+    committed_counts why result last to new ends commits = commit_counts ends.executed last commits ∙ executed_counts why result last to new ends
+
+    run_counts : (result : Result (Unit {0}) (Stop PersistenceFault E H)) (last : B) (to : F) (new : Option (List ℕ)) → RunsAll backend framing limits first from old result last to new
+        → ReportsFaultOf result (faults (disk_in (kept_of first))) (faults (disk_in (kept_of last)))
+    run_counts (Ok done) last to new runs = committed_counts halt.End (Ok tt) last to new runs runs.flushes.0
+    run_counts (Err (stop.Commit why)) last to new runs =
+        subst (λ (n : ℕ). ReportsDiskFault why n (faults (disk_in (kept_of last)))) (executed_counts runs.why (Err (stop.Commit why)) last to new runs.ends)
+        (over.commits runs.ends.executed (Err why) last runs.ends.flushes.0).counts
+    run_counts (Err (stop.Write error)) last to new runs = committed_counts runs.why (Err (stop.Write error)) last to new runs.ends runs.ends.flushes.0
+    run_counts (Err (stop.Read why)) last to new runs = committed_counts (halt.Read why) (Ok tt) last to new runs runs.flushes.0
+    run_counts (Err (stop.Execute why)) last to new runs = committed_counts (halt.Execute why) (Ok tt) last to new runs runs.flushes.0
+    run_counts (Err stop.Memory) last to new runs = committed_counts halt.Memory (Ok tt) last to new runs runs.flushes.0
+    run_counts (Err stop.Internal) last to new (done, counted) = groups_count first from done.groups last to done.commits
+
+    -- ---- a conversation by which no commit is possible
+
+    module _ (stopped : may_commit (kept_of first) ≡ false) where
+      executed_stopped : (why : Halt E H) (result : Result (Unit {0}) (Stop PersistenceFault E H)) (last : B) (to : F) (new : Option (List ℕ))
+          → (ends : EndsAfterGroup backend framing limits why result first from old last to new) → SharesStore (kept_of first) (kept_of ends.executed)
+      executed_stopped why result last to new ends =
+          subst (λ (b : B). SharesStore (kept_of b) (kept_of ends.executed)) (sym (no_group first from ends.earlier.groups ends.begun ends.at ends.earlier.commits stopped).1)
+          (group_shares ends.begun ends.at why ends.executed to ends.text ends.gathers)
+
+      never_committed : (why : Halt E H) (result : Result (Unit {0}) (Stop PersistenceFault E H)) (last : B) (to : F) (new : Option (List ℕ))
+          → (ends : EndsAfterGroup backend framing limits why result first from old last to new) → backend.commits ends.executed (Ok tt) last → ⊥
+      never_committed why result last to new ends commits =
+          no_commit ends.executed last (still_stopped (kept_of first) (kept_of ends.executed) (executed_stopped why result last to new ends) stopped) commits
+
+      abbrev Stops : Result (Unit {0}) (Stop PersistenceFault E H) → B → Option (List ℕ) → Type 0
+      Stops result last new = (result ≡ Err (stop.Commit stopped_fault)) × Keeps old new × SharesStore (kept_of first) (kept_of last)
+
+      kept_none : (groups : List (List (Step Q A))) (held : Option (List ℕ)) (text : List ℕ) → groups ≡ [] → Appends old held text → text ≡ [] → Keeps old held
+      kept_none groups held text none appends same = nothing old held (subst (Appends old held) same appends)
+        where
+          nothing : (a b : Option (List ℕ)) → Appends a b [] → Keeps a b
+          nothing None b appends = tt
+          nothing (Some xs) None appends = appends
+          nothing (Some xs) (Some ys) appends = appends ∙ append-nil xs
+
+      run_stopped : (result : Result (Unit {0}) (Stop PersistenceFault E H)) (last : B) (to : F) (new : Option (List ℕ)) → RunsAll backend framing limits first from old result last to new
+          → Stops result last new
+      run_stopped (Ok done) last to new runs = absurd (never_committed halt.End (Ok tt) last to new runs runs.flushes.0)
+      run_stopped (Err (stop.Commit why)) last to new runs = (
+        ap (λ r. as_commit r) (commits.stopped stopped_then).0,
+        keeps_through old runs.ends.held new
+            (kept_none runs.ends.earlier.groups runs.ends.held _ none.0 runs.ends.earlier.writes (ap (λ gs. flat_map (λ steps. responses backend framing steps) gs) none.0))
+            runs.ends.flushes.1,
+        subst (λ (kept : DurableRepository D). SharesStore (kept_of first) kept) (sym (commits.stopped stopped_then).1) shares,
+      )
+        where
+          shares : SharesStore (kept_of first) (kept_of runs.ends.executed)
+          shares = executed_stopped runs.why (Err (stop.Commit why)) last to new runs.ends
+
+          stopped_then : may_commit (kept_of runs.ends.executed) ≡ false
+          stopped_then = still_stopped (kept_of first) (kept_of runs.ends.executed) shares stopped
+
+          commits : CommitsStore seen may_leave faults is_clean (kept_of runs.ends.executed) (Err why) (kept_of last)
+          commits = over.commits runs.ends.executed (Err why) last runs.ends.flushes.0
+
+          none : (runs.ends.earlier.groups ≡ []) × (first ≡ runs.ends.begun)
+          none = no_group first from runs.ends.earlier.groups runs.ends.begun runs.ends.at runs.ends.earlier.commits stopped
+
+          as_commit : Result (Unit {0}) PersistenceFault → Result (Unit {0}) (Stop PersistenceFault E H)
+          as_commit (Ok done) = Ok done
+          as_commit (Err fault) = Err (stop.Commit fault)
+
+          keeps_through : (a b c : Option (List ℕ)) → Keeps a b → Keeps b c → Keeps a c
+          keeps_through None b c first second = tt
+          keeps_through (Some xs) None c first second = absurd first
+          keeps_through (Some xs) (Some ys) None first second = second
+          keeps_through (Some xs) (Some ys) (Some zs) first second = second ∙ first
+      run_stopped (Err (stop.Write error)) last to new runs = absurd (never_committed runs.why (Err (stop.Write error)) last to new runs.ends runs.ends.flushes.0)
+      run_stopped (Err (stop.Read why)) last to new runs = absurd (never_committed (halt.Read why) (Ok tt) last to new runs runs.flushes.0)
+      run_stopped (Err (stop.Execute why)) last to new runs = absurd (never_committed (halt.Execute why) (Ok tt) last to new runs runs.flushes.0)
+      run_stopped (Err stop.Memory) last to new runs = absurd (never_committed halt.Memory (Ok tt) last to new runs runs.flushes.0)
+      run_stopped (Err stop.Internal) last to new (done, counted) =
+          absurd (omega (arith, counted, ap (λ (gs : List (List (Step Q A))). length gs) (no_group first from done.groups last to done.commits stopped).0))
+
+    -- ---- what a crash leaves after a commit that has failed
+
+    groups_persist : (start : B) (on : F) (groups : List (List (Step Q A))) (last : B) (at : F) → Commits backend framing limits start on groups last at → (stored : StoreContents)
+        → Persists seen may_leave stored (kept_of start) → Persists seen may_leave (durable_after groups stored (accepted_by (kept_of last))) (kept_of last)
+    groups_persist start on [] last at (same, more) stored durable = subst (λ (b : B). Persists seen may_leave stored (kept_of b)) same durable
+    groups_persist start on (steps ∷ groups) last at (executed, next, to, some, follows, committed, more) stored durable =
+        all groups more (groups_persist next to groups last at more (accepted_by (kept_of next))
+        (commit_persists seen may_leave faults is_clean (kept_of executed) (kept_of next) (over.commits executed (Ok tt) next committed) stored
+        (share_persists seen may_leave (kept_of start) (kept_of executed) (follows_share start on [] steps executed to follows) stored durable)))
+      where
+        all : (groups : List (List (Step Q A))) → Commits backend framing limits next to groups last at
+            → Persists seen may_leave (durable_after groups (accepted_by (kept_of next)) (accepted_by (kept_of last))) (kept_of last)
+            → Persists seen may_leave (accepted_by (kept_of last)) (kept_of last)
+        all [] (same, more) durable = subst (λ (b : B). Persists seen may_leave (accepted_by (kept_of b)) (kept_of b)) same (subst (λ (b : B). Persists seen may_leave (accepted_by (kept_of next)) (kept_of b)) (sym same) durable)
+        all (group ∷ others) commits durable = durable
+
+    leaves_answered : (why : PersistenceFault) (last : B) (to : F) (new : Option (List ℕ))
+        (stops : StopsAfterGroup backend framing limits (Err (stop.Commit why)) first from old last to new)
+        → LeavesAnswered seen may_leave faults is_clean backend kept_of framing limits first from old why last to new stops
+    leaves_answered why last to new stops stored durable =
+        (over.commits stops.ends.executed (Err why) last stops.ends.flushes.0).crash _
+        (share_persists seen may_leave (kept_of stops.ends.begun) (kept_of stops.ends.executed)
+        (group_shares stops.ends.begun stops.ends.at stops.why stops.ends.executed to stops.ends.text stops.ends.gathers) _
+        (groups_persist first from stops.ends.earlier.groups stops.ends.begun stops.ends.at stops.ends.earlier.commits stored durable))
+
+pub promises_kept : {D B F Q A E H : Type 0} (seen : D → List ℕ) (may_leave : D → List ℕ → Type 0) (faults : D → ℕ) (is_clean : D → Bool)
+    (backend : backends.Ghosts B Q A E PersistenceFault) (framing : framings.Ghosts F Q A H) (kept_of : B → DurableRepository D)
+    → StoresKeepPromises seen may_leave faults is_clean backend framing kept_of
+promises_kept seen may_leave faults is_clean backend framing kept_of = record {
+  all = λ over limits first from old result last to new runs. record {
+    stopped = λ stopped. run_stopped seen may_leave faults is_clean backend framing kept_of over limits first from old stopped result last to new runs;
+    counts = run_counts seen may_leave faults is_clean backend framing kept_of over limits first from old result last to new runs;
+  };
+  failed = λ over limits first from old why last to new stops.
+      leaves_answered seen may_leave faults is_clean backend framing kept_of over limits first from old why last to new stops;
+}
