@@ -4,7 +4,7 @@ use Rattle.camp_kept.proofs.Prefixes.{prefix_grows, prefix_self, prefix_through}
 use Rattle.camp_kept.specs.Accepting.{StoreContents}
 use Rattle.camp_kept.specs.Persisting.{PersistsCalls, accepted_by}
 use Rattle.camp_kept.specs.declared.repositories.DurableRepository.{DurableRepository}
-use Rattle.camp_kept_talk.specs.Conversations.{CommitsStore, Persists, SharesStore}
+use Rattle.camp_kept_talk.specs.Conversations.{CommitsStore, PersistsFirst, SharesStore}
 
 module _ {D : Type 0} (seen : D → List ℕ) (may_leave : D → List ℕ → Type 0) where
   shared : (stored : StoreContents) (before after : DurableRepository D) → SharesStore before after → PersistsCalls seen may_leave stored before
@@ -13,7 +13,7 @@ module _ {D : Type 0} (seen : D → List ℕ) (may_leave : D → List ℕ → Ty
 
   -- when requests are executed
   pub share_persists : (before after : DurableRepository D) → SharesStore before after → (stored : StoreContents)
-      → Persists seen may_leave stored before → Persists seen may_leave stored after
+      → PersistsFirst seen may_leave stored before → PersistsFirst seen may_leave stored after
   share_persists before after shares stored durable = (
     prefix_through durable.0 (prefix_grows before.book after.book shares.grows),
     subst (λ (kept : DurableRepository D). PersistsCalls seen may_leave stored kept) (sym shares.same) (shared stored before after shares durable.1),
@@ -22,5 +22,5 @@ module _ {D : Type 0} (seen : D → List ℕ) (may_leave : D → List ℕ → Ty
   -- at a commit
   pub commit_persists : (faults : D → ℕ) (is_clean : D → Bool) (before after : DurableRepository D)
       → CommitsStore seen may_leave faults is_clean before (Ok tt) after → (stored : StoreContents)
-      → Persists seen may_leave stored before → Persists seen may_leave (accepted_by after) after
+      → PersistsFirst seen may_leave stored before → PersistsFirst seen may_leave (accepted_by after) after
   commit_persists faults is_clean before after commits stored durable = (prefix_self (accepted_by after), commits.acknowledged stored durable)

@@ -7,7 +7,7 @@ use Rattle.camp_kept.specs.Persisting.{accepted_by, disk_in, may_commit}
 use Rattle.camp_kept.specs.declared.faults.PersistenceFault.{PersistenceFault}
 use Rattle.camp_kept.specs.declared.repositories.DurableRepository.{DurableRepository}
 use Rattle.camp_kept_talk.proofs.Persisting.{commit_persists, share_persists}
-use Rattle.camp_kept_talk.specs.Conversations.{CommitsStore, MayLeave, Persists, SharesStore, stopped_fault}
+use Rattle.camp_kept_talk.specs.Conversations.{CommitsStore, MayLeave, PersistsFirst, SharesStore, stopped_fault}
 use Rattle.camp_kept_talk.specs.Laws.{IsOverStore, LeavesAnswered, ReportsFaultOf, StoresKeepPromises}
 use Rattle.camp_object.proofs.SameBooks.{earlier_self, earlier_through}
 use Rattle.camp_talk.specs.Engine.Groups.{ExecutesInOrder, Halts, RunsGroup, Step, responses}
@@ -189,17 +189,17 @@ module _ {D : Type 0} (seen : D → List ℕ) (may_leave : D → List ℕ → Ty
     -- ---- what a crash leaves after a commit that has failed
 
     groups_persist : (start : B) (on : F) (groups : List (List (Step Q A))) (last : B) (at : F) → Commits backend framing limits start on groups last at → (stored : StoreContents)
-        → Persists seen may_leave stored (kept_of start) → Persists seen may_leave (durable_after groups stored (accepted_by (kept_of last))) (kept_of last)
-    groups_persist start on [] last at (same, more) stored durable = subst (λ (b : B). Persists seen may_leave stored (kept_of b)) same durable
+        → PersistsFirst seen may_leave stored (kept_of start) → PersistsFirst seen may_leave (durable_after groups stored (accepted_by (kept_of last))) (kept_of last)
+    groups_persist start on [] last at (same, more) stored durable = subst (λ (b : B). PersistsFirst seen may_leave stored (kept_of b)) same durable
     groups_persist start on (steps ∷ groups) last at (executed, next, to, some, follows, committed, more) stored durable =
         all groups more (groups_persist next to groups last at more (accepted_by (kept_of next))
         (commit_persists seen may_leave faults is_clean (kept_of executed) (kept_of next) (over.commits executed (Ok tt) next committed) stored
         (share_persists seen may_leave (kept_of start) (kept_of executed) (follows_share start on [] steps executed to follows) stored durable)))
       where
         all : (groups : List (List (Step Q A))) → Commits backend framing limits next to groups last at
-            → Persists seen may_leave (durable_after groups (accepted_by (kept_of next)) (accepted_by (kept_of last))) (kept_of last)
-            → Persists seen may_leave (accepted_by (kept_of last)) (kept_of last)
-        all [] (same, more) durable = subst (λ (b : B). Persists seen may_leave (accepted_by (kept_of b)) (kept_of b)) same (subst (λ (b : B). Persists seen may_leave (accepted_by (kept_of next)) (kept_of b)) (sym same) durable)
+            → PersistsFirst seen may_leave (durable_after groups (accepted_by (kept_of next)) (accepted_by (kept_of last))) (kept_of last)
+            → PersistsFirst seen may_leave (accepted_by (kept_of last)) (kept_of last)
+        all [] (same, more) durable = subst (λ (b : B). PersistsFirst seen may_leave (accepted_by (kept_of b)) (kept_of b)) same (subst (λ (b : B). PersistsFirst seen may_leave (accepted_by (kept_of next)) (kept_of b)) (sym same) durable)
         all (group ∷ others) commits durable = durable
 
     leaves_answered : (why : PersistenceFault) (last : B) (to : F) (new : Option (List ℕ))

@@ -20,8 +20,8 @@ stopped_fault = fault.Store store_fault.Failed
 
 module _ {D : Type 0} (seen : D → List ℕ) (may_leave : D → List ℕ → Type 0) where
   -- at least these first calls of a repository are durable
-  abbrev pub Persists : StoreContents → DurableRepository D → Type 0
-  Persists stored kept = AreFirstCalls stored kept × PersistsCalls seen may_leave stored kept
+  abbrev pub PersistsFirst : StoreContents → DurableRepository D → Type 0
+  PersistsFirst stored kept = AreFirstCalls stored kept × PersistsCalls seen may_leave stored kept
 
   -- whatever a crash leaves is a store of these calls, or of all accepted calls
   abbrev pub MayLeave : StoreContents → DurableRepository D → Type 0
@@ -33,8 +33,8 @@ module _ {D : Type 0} (seen : D → List ℕ) (may_leave : D → List ℕ → Ty
     -- it fails and nothing changes.
     pub record CommitsStore (old : DurableRepository D) (result : Result (Unit {0}) PersistenceFault) (new : DurableRepository D) : Type 0 where
       pub book : new.book ≡ old.book
-      pub acknowledged : (stored : StoreContents) → Persists stored old → OnOk result (PersistsCalls seen may_leave (accepted_by new) new)
-      pub crash : (stored : StoreContents) → Persists stored old → MayLeave stored new
+      pub acknowledged : (stored : StoreContents) → PersistsFirst stored old → OnOk result (PersistsCalls seen may_leave (accepted_by new) new)
+      pub crash : (stored : StoreContents) → PersistsFirst stored old → MayLeave stored new
       pub leaves : IfErr result (λ why. LeavesRepository why old new)
       pub stopped : may_commit old ≡ false → (result ≡ Err stopped_fault) × (new ≡ old)
       pub counts : CountsDiskFaults result (faults (disk_in old)) (faults (disk_in new))

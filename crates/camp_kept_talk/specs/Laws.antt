@@ -6,7 +6,7 @@ use Rattle.camp_kept.specs.Faults.{ReportsDiskFault}
 use Rattle.camp_kept.specs.Persisting.{PersistsCalls, accepted_by, disk_in, may_commit}
 use Rattle.camp_kept.specs.declared.faults.PersistenceFault.{PersistenceFault}
 use Rattle.camp_kept.specs.declared.repositories.DurableRepository.{DurableRepository}
-use Rattle.camp_kept_talk.specs.Conversations.{CommitsStore, MayLeave, Persists, SharesStore, stopped_fault}
+use Rattle.camp_kept_talk.specs.Conversations.{CommitsStore, MayLeave, PersistsFirst, SharesStore, stopped_fault}
 use Rattle.camp_talk.specs.Engine.Runs.{RunsAll, StopsAfterGroup, durable_after}
 use Rattle.camp_talk.specs.declared.engine.backends.Backend as backends
 use Rattle.camp_talk.specs.declared.engine.framings.Framing as framings
@@ -41,7 +41,7 @@ module _ {D : Type 0} (seen : D → List ℕ) (may_leave : D → List ℕ → Ty
       abbrev pub LeavesAnswered : (why : PersistenceFault) (last : B) (to : F) (new : Option (List ℕ))
           → StopsAfterGroup backend framing limits (Err (stop.Commit why)) first from old last to new → Type 0
       LeavesAnswered why last to new stops =
-          (stored : StoreContents) → Persists seen may_leave stored (kept_of first)
+          (stored : StoreContents) → PersistsFirst seen may_leave stored (kept_of first)
           → MayLeave seen may_leave (durable_after stops.ends.earlier.groups stored (accepted_by (kept_of stops.ends.begun))) (kept_of last)
 
 -- conversations over a durable repository keep their promises, whatever backend and framing they have

@@ -2,7 +2,7 @@
 ghost use Rattle.std.specs.Prelude.{◌≡◌, ◌-◌, length};
 ghost use Rattle.camp_kept.specs.Accepting.{StoreContents};
 ghost use Rattle.camp_kept.specs.Persisting.{accepted_by, durable_count_in};
-ghost use Rattle.camp_kept_talk.specs.Conversations.{CommitsStore, Persists, SharesStore};
+ghost use Rattle.camp_kept_talk.specs.Conversations.{CommitsStore, PersistsFirst, SharesStore};
 ghost use Rattle.camp_talk.specs.Diagnostics.{no_diagnostic};
 ghost use Rattle.camp_talk.specs.Engine.Commands.{AnswersFrame, ExecutesCommand};
 
@@ -50,7 +50,7 @@ impl<D: Disk> Backend<Command, Response> for StoredConversation<D> {
 
     ghost contents = { λ it. accepted_by it.kept };
 
-    ghost persists = { λ stored it. Persists D.Disk.seen D.Disk.may_leave stored it.kept };
+    ghost persists = { λ stored it. PersistsFirst D.Disk.seen D.Disk.may_leave stored it.kept };
 
     ghost executes = { λ before command result after. SharesStore before.kept after.kept × ExecutesCommand
         (record { history = before.kept.book; lines = before.lines; diagnostic = before.diagnostic }) command
@@ -111,7 +111,7 @@ impl<D: Disk> Backend<Vec<u8>, Vec<u8>> for FramedStore<D> {
 
     ghost contents = { λ it. accepted_by it.kept };
 
-    ghost persists = { λ stored it. Persists D.Disk.seen D.Disk.may_leave stored it.kept };
+    ghost persists = { λ stored it. PersistsFirst D.Disk.seen D.Disk.may_leave stored it.kept };
 
     ghost executes = { λ before request result after. SharesStore before.kept after.kept × AnswersFrame before.kept.book request.items result after.kept.book };
 
@@ -136,7 +136,7 @@ impl<D: Disk> Backend<Vec<u8>, Vec<u8>> for FramedStore<D> {
     ghost commit_persists = { λ before after commits stored durable. commit_persists _ _ _ _ before.kept after.kept commits stored durable };
 }
 
-// Persists all accepted calls.
+// PersistsFirst all accepted calls.
 fn commit_store<D: Disk>(
     alloc: Global,
     kept: &mut DurableRepository<D>,

@@ -5,10 +5,10 @@ use camp_talk::{
 };
 use std::io::{BufReader, IsTerminal, Stdin};
 
-/// Each answer is written before the next command is read.
+/// Each answer is written before the next command, or the next request, is read.
 pub(crate) const ONE_BY_ONE: GroupLimits = GroupLimits { calls: 1, bytes: 1 };
 
-/// Answers wait for the commit after at most 256 calls or a mebibyte of answers, while further commands are ready.
+/// While further commands are ready, answers wait for the commit after 256 calls or a mebibyte of answers.
 pub(crate) const GROUPED: GroupLimits = GroupLimits {
     calls: 256,
     bytes: 1 << 20,
@@ -48,18 +48,17 @@ pub(crate) fn talk_in_lines<B: Backend<Command, Response, Fault = TalkFault>>(
     }
 }
 
-/// Holds a conversation in frames.
+/// Holds a conversation in frames, in which each request has a commit of its own.
 pub(crate) fn talk_in_frames<B: Backend<Vec<u8>, Vec<u8>, Fault = TalkFault>>(
     rt: &HostRuntime,
     backend: &mut B,
-    limits: GroupLimits,
 ) -> Result<(), Ending<B::CommitFault>> {
     let reader = match input(rt) {
         Ok(reader) => reader,
         Err(fault) => return Err(Ending::Talk(fault)),
     };
     let mut frames = Frames::new(rt.alloc(), reader);
-    match run(rt.alloc(), backend, &mut frames, &mut rt.stdout(), limits) {
+    match run(rt.alloc(), backend, &mut frames, &mut rt.stdout(), ONE_BY_ONE) {
         Ok(()) => Ok(()),
         Err(stop) => Err(ending(stop)),
     }

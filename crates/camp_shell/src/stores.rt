@@ -32,7 +32,7 @@ pub(crate) fn hold_stored<'a>(
         return export_branch(rt, &kept.book, branch);
     }
     let ended = match wish.form {
-        Form::Frames => talk_in_frames(rt, &mut FramedStore::new(rt.alloc(), kept), GROUPED),
+        Form::Frames => talk_in_frames(rt, &mut FramedStore::new(rt.alloc(), kept)),
         form => talk_in_lines(rt, &mut StoredConversation::new(rt.alloc(), kept), GROUPED, form),
     };
     match ended {
