@@ -1,2 +1,1 @@
-pub mod Persisting
 pub mod Promising

@@ -6,7 +6,7 @@ use Rattle.camp_kept.specs.Faults.{ReportsDiskFault}
 use Rattle.camp_kept.specs.Persisting.{accepted_by, disk_in, may_commit}
 use Rattle.camp_kept.specs.declared.faults.PersistenceFault.{PersistenceFault}
 use Rattle.camp_kept.specs.declared.repositories.DurableRepository.{DurableRepository}
-use Rattle.camp_kept_talk.proofs.Persisting.{commit_persists, share_persists}
+use Rattle.camp_kept_talk.specs.DurableLaws.{commit_persists, share_persists}
 use Rattle.camp_kept_talk.specs.Conversations.{CommitsStore, MayLeave, PersistsFirst, SharesStore, stopped_fault}
 use Rattle.camp_kept_talk.specs.Laws.{IsOverStore, LeavesAnswered, ReportsFaultOf, StoresKeepPromises}
 use Rattle.camp_object.proofs.SameBooks.{earlier_self, earlier_through}

@@ -44,7 +44,7 @@ impl<D: Disk> Backend<Command, Response> for StoredConversation<D> {
 
     type CommitFault = PersistenceFault;
 
-    ghost use Rattle.camp_kept_talk.proofs.Persisting.{commit_persists, share_persists};
+    ghost use Rattle.camp_kept_talk.specs.DurableLaws.{commit_persists, share_persists};
 
     ghost Contents = { StoreContents };
 
@@ -105,7 +105,7 @@ impl<D: Disk> Backend<Vec<u8>, Vec<u8>> for FramedStore<D> {
 
     type CommitFault = PersistenceFault;
 
-    ghost use Rattle.camp_kept_talk.proofs.Persisting.{commit_persists, share_persists};
+    ghost use Rattle.camp_kept_talk.specs.DurableLaws.{commit_persists, share_persists};
 
     ghost Contents = { StoreContents };
 

@@ -1,14 +1,15 @@
 -- Answering commands and requests removes no call from the history.
-use Rattle.camp_talk.proofs.Words.{◌≡◌, ◌⊎◌, inl, inr, ℕ, List, [], ◌∷◌, length, Result, Ok, Err, Vec, refl, sym, subst, Gives, LineFault, ScriptFault, AnswersCommand, SessionState, AnswersParsed, RunsOutOfMemory, parsed_command, Entries, Exchange, AnswersInOrder, ParsedCommand}
+use Rattle.camp_talk.proofs.Words.{◌≡◌, ◌⊎◌, inl, inr, ℕ, List, [], ◌∷◌, length, Result, Ok, Err, Vec, ap, refl, sym, subst, Gives, LineFault, ScriptFault, AnswersCommand, SessionState, AnswersParsed, RunsOutOfMemory, parsed_command, Entries, Exchange, AnswersInOrder, ParsedCommand}
 use Rattle.camp_object.specs.Books.{IsEarlier}
 use Rattle.camp_object.proofs.SameBooks.{earlier_same, earlier_self, earlier_through}
 use Rattle.camp_script.specs.declared.faults.ScriptFault.TheVariants as script
 use Rattle.camp_talk.specs.Diagnostics.{Diagnostic, no_diagnostic}
-use Rattle.camp_talk.specs.Engine.Commands.{AnswersFrame}
+use Rattle.camp_talk.specs.Engine.Commands.{AnswersFrame, ExecutesCommand}
 use Rattle.camp_talk.specs.Inside.ExecutingNext.{RespondsTo}
 use Rattle.camp_talk.specs.Requests.{AnswersRequest, AnswersSome, LosesAnswer}
 use Rattle.camp_talk.specs.declared.faults.TalkFault.{TalkFault}
 use Rattle.camp_talk.specs.declared.questions.ParsedCommand.TheVariants as parsed
+use Rattle.camp_talk.specs.declared.readings.Command.{Command}
 use Rattle.camp_talk.specs.declared.responses.Response.{Response}
 use Rattle.camp_talk.specs.declared.responses.Response.TheVariants.{Done, Failed, OutOfMemory}
 
@@ -68,3 +69,9 @@ pub frame_grows : {Z : Type 0} (before : Entries) (request : List ℕ) (result :
     → AnswersFrame before request result after → IsEarlier before after
 frame_grows before request (Ok answer) after answers = request_grows before request answer.items after answers
 frame_grows before request (Err why) after (is, text, executed, some) = some_grow before request text after executed some
+
+-- the same of a command that was read
+pub command_grows : (before : SessionState) (command : Command) (result : Result Response TalkFault) (after : SessionState)
+    → ExecutesCommand before command result after → IsEarlier before.history after.history
+command_grows before command (Ok response) after (answers, grows) = grows
+command_grows before command (Err why) after (is, same, many) = earlier_same before.history after.history (ap (λ (s : SessionState). s.history) same)

@@ -1,4 +1,4 @@
--- What is durable stays durable.
+-- What is durable in a repository stays so, when requests are executed and at a commit.
 use Rattle.std.proofs.Common.{◌≡◌, ℕ, Bool, List, Ok, sym, subst}
 use Rattle.camp_kept.proofs.Prefixes.{prefix_grows, prefix_self, prefix_through}
 use Rattle.camp_kept.specs.Accepting.{StoreContents}
