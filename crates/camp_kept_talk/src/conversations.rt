@@ -7,9 +7,7 @@ ghost use Rattle.camp_talk.specs.Diagnostics.{no_diagnostic};
 ghost use Rattle.camp_talk.specs.Engine.Commands.{AnswersFrame, ExecutesCommand};
 
 use camp_kept::{Disk, DurableRepository, PersistenceFault};
-use camp_talk::{
-    Backend, Command, Diagnostic, Response, TalkFault, answer_alone, execute_command,
-};
+use camp_talk::{Backend, Command, Diagnostic, Response, TalkFault, answer_alone, execute_command};
 use std::alloc::Global;
 
 /// A conversation over a durable repository: commands are executed at seat 0.

@@ -58,7 +58,13 @@ pub(crate) fn talk_in_frames<B: Backend<Vec<u8>, Vec<u8>, Fault = TalkFault>>(
         Err(fault) => return Err(Ending::Talk(fault)),
     };
     let mut frames = Frames::new(rt.alloc(), reader);
-    match run(rt.alloc(), backend, &mut frames, &mut rt.stdout(), ONE_BY_ONE) {
+    match run(
+        rt.alloc(),
+        backend,
+        &mut frames,
+        &mut rt.stdout(),
+        ONE_BY_ONE,
+    ) {
         Ok(()) => Ok(()),
         Err(stop) => Err(ending(stop)),
     }

@@ -84,7 +84,12 @@ fn loaded<'a>(
 fn converse<'a>(rt: &HostRuntime, book: Book<State>, form: Form) -> Result<(), Stop<'a>> {
     let ended = match form {
         Form::Frames => talk_in_frames(rt, &mut FramedConversation::new(rt.alloc(), book)),
-        _ => talk_in_lines(rt, &mut Conversation::new(rt.alloc(), book), ONE_BY_ONE, form),
+        _ => talk_in_lines(
+            rt,
+            &mut Conversation::new(rt.alloc(), book),
+            ONE_BY_ONE,
+            form,
+        ),
     };
     match ended {
         Ok(()) => Ok(()),

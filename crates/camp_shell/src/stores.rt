@@ -33,7 +33,12 @@ pub(crate) fn hold_stored<'a>(
     }
     let ended = match wish.form {
         Form::Frames => talk_in_frames(rt, &mut FramedStore::new(rt.alloc(), kept)),
-        form => talk_in_lines(rt, &mut StoredConversation::new(rt.alloc(), kept), GROUPED, form),
+        form => talk_in_lines(
+            rt,
+            &mut StoredConversation::new(rt.alloc(), kept),
+            GROUPED,
+            form,
+        ),
     };
     match ended {
         Ok(()) => Ok(()),

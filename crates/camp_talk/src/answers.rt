@@ -13,6 +13,7 @@ ghost use Rattle.camp_talk.specs.Inside.Responses.{IsOutOfMemory};
 ghost use Rattle.camp_talk.specs.Talks.{AppendsSome};
 ghost use Rattle.camp_talk.specs.declared.questions.ParsedCommand.{ParsedCommand as SpecParsedCommand};
 
+use crate::Diagnostic;
 use crate::answer_parts::refusal_text;
 use crate::parsing::first_line;
 use crate::question_answers::answer_at;
@@ -20,7 +21,6 @@ use crate::questions::ParsedCommand;
 use crate::readings::Command;
 use crate::responses::{Failure, Response, fault_text};
 use crate::why_reports::render_why;
-use crate::Diagnostic;
 use camp_object::Fault;
 use camp_questions::Unanswered;
 use camp_repo::{Book, Call, Refusal, Reply, State};

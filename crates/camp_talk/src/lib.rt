@@ -44,7 +44,8 @@ pub use answers::write_answer;
 pub use camp_repo::{Book, LimitFault, Limits, State, new_book};
 pub use diagnostics::Diagnostic;
 pub use engine::{
-    Backend, Conversation, FramedConversation, Frames, Framing, GroupLimits, Lines, Prompts, Stop, responses_are_durable, run,
+    Backend, Conversation, FramedConversation, Frames, Framing, GroupLimits, Lines, Prompts, Stop,
+    responses_are_durable, run,
 };
 pub use faults::{LoadFault, TalkFault};
 pub use frames::FrameFault;

@@ -101,18 +101,22 @@ impl Conversation {
             Framing::Lines => {
                 let mut backend = camp_talk::Conversation::new(alloc, book);
                 let mut lines = Lines::new(alloc, reader);
-                Ok(match run(alloc, &mut backend, &mut lines, writer, ONE_BY_ONE) {
-                    Ok(()) => Ok(()),
-                    Err(stop) => Err(talk_fault(stop)),
-                })
+                Ok(
+                    match run(alloc, &mut backend, &mut lines, writer, ONE_BY_ONE) {
+                        Ok(()) => Ok(()),
+                        Err(stop) => Err(talk_fault(stop)),
+                    },
+                )
             }
             Framing::Frames => {
                 let mut backend = FramedConversation::new(alloc, book);
                 let mut frames = Frames::new(alloc, reader);
-                Ok(match run(alloc, &mut backend, &mut frames, writer, ONE_BY_ONE) {
-                    Ok(()) => Ok(()),
-                    Err(stop) => Err(talk_fault(stop)),
-                })
+                Ok(
+                    match run(alloc, &mut backend, &mut frames, writer, ONE_BY_ONE) {
+                        Ok(()) => Ok(()),
+                        Err(stop) => Err(talk_fault(stop)),
+                    },
+                )
             }
         }
     }

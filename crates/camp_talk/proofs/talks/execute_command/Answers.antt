@@ -22,7 +22,7 @@ returns-clause-executes g c =
     let after : SessionState = record { history = c.respond-response.new.book; lines = c.in-Some-checked_add.after; diagnostic = c.respond-response.new.diagnostic } in (
       λ (bytes : List ℕ) (is : IsReadAs c.args.command bytes). answered before after bytes c.respond-response.result
           (responded before after.history after.diagnostic bytes (lines_of c.args.command.bytes.items) c.args.command.parsed is.parsed is.lines
-              c.respond-response.result c.respond-response.ensures.responds c.respond-response.ensures.nothing is.silent)
+          c.respond-response.result c.respond-response.ensures.responds c.respond-response.ensures.nothing is.silent)
           (omega (arith, c.count_lines.ensures, ap (λ (ls : List (List ℕ)). length ls) is.lines, length-map (lines_of bytes) as_read)),
       respond_grows before (lines_of c.args.command.bytes.items) c.args.command.parsed c.respond-response.result after.history after.diagnostic
           c.respond-response.ensures.responds,
