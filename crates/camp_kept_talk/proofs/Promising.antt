@@ -24,12 +24,12 @@ shares_self : {D : Type 0} (kept : DurableRepository D) → SharesStore kept kep
 shares_self kept = record { same = refl; grows = earlier_self kept.book }
 
 shares_through : {D : Type 0} (one two three : DurableRepository D) → SharesStore one two → SharesStore two three → SharesStore one three
-shares_through one two three first second = record {
-  same = second.same ∙ ap (λ kept. record kept { book = three.book }) first.same;
+shares_through {D = D} one two three first second = record {
+  same = second.same ∙ ap (λ (kept : DurableRepository D). record kept { book = three.book }) first.same;
   grows = earlier_through first.grows second.grows;
 }
 
-err_no_ok : {D : Type 0} (why : PersistenceFault) (result : Result (Unit {0}) PersistenceFault) (done : Unit {0}) → result ≡ Err why → result ≡ Ok done → ⊥
+err_no_ok : (why : PersistenceFault) (result : Result (Unit {0}) PersistenceFault) (done : Unit {0}) → result ≡ Err why → result ≡ Ok done → ⊥
 err_no_ok why result done err ok = subst is_err (sym err ∙ ok) tt
   where
     is_err : Result (Unit {0}) PersistenceFault → Type 0
@@ -74,7 +74,7 @@ module _ {D : Type 0} (seen : D → List ℕ) (may_leave : D → List ℕ → Ty
 
   no_commit : (before after : B) → may_commit (kept_of before) ≡ false → backend.commits before (Ok tt) after → ⊥
   no_commit before after stopped commits =
-      err_no_ok {D = D} stopped_fault (Ok tt) tt ((over.commits before (Ok tt) after commits).stopped stopped).0 refl
+      err_no_ok stopped_fault (Ok tt) tt ((over.commits before (Ok tt) after commits).stopped stopped).0 refl
 
   no_group : (first : B) (from : F) (groups : List (List (Step Q A))) (last : B) (at : F) → Commits backend framing limits first from groups last at
       → may_commit (kept_of first) ≡ false → (groups ≡ []) × (first ≡ last)
@@ -139,8 +139,8 @@ module _ {D : Type 0} (seen : D → List ℕ) (may_leave : D → List ℕ → Ty
       abbrev Stops : Result (Unit {0}) (Stop PersistenceFault E H) → B → Option (List ℕ) → Type 0
       Stops result last new = (result ≡ Err (stop.Commit stopped_fault)) × Keeps old new × SharesStore (kept_of first) (kept_of last)
 
-      kept_none : (groups : List (List (Step Q A))) (held : Option (List ℕ)) (text : List ℕ) → groups ≡ [] → Appends old held text → text ≡ [] → Keeps old held
-      kept_none groups held text none appends same = nothing old held (subst (Appends old held) same appends)
+      kept_none : (held : Option (List ℕ)) (text : List ℕ) → Appends old held text → text ≡ [] → Keeps old held
+      kept_none held text appends same = nothing old held (subst (Appends old held) same appends)
         where
           nothing : (a b : Option (List ℕ)) → Appends a b [] → Keeps a b
           nothing None b appends = tt
@@ -153,7 +153,7 @@ module _ {D : Type 0} (seen : D → List ℕ) (may_leave : D → List ℕ → Ty
       run_stopped (Err (stop.Commit why)) last to new runs = (
         ap (λ r. as_commit r) (commits.stopped stopped_then).0,
         keeps_through old runs.ends.held new
-            (kept_none runs.ends.earlier.groups runs.ends.held _ none.0 runs.ends.earlier.writes (ap (λ gs. flat_map (λ steps. responses backend framing steps) gs) none.0))
+            (kept_none runs.ends.held _ runs.ends.earlier.writes (ap (λ (gs : List (List (Step Q A))). flat_map (λ steps. responses backend framing steps) gs) none.0))
             runs.ends.flushes.1,
         subst (λ (kept : DurableRepository D). SharesStore (kept_of first) kept) (sym (commits.stopped stopped_then).1) shares,
       )
@@ -199,7 +199,7 @@ module _ {D : Type 0} (seen : D → List ℕ) (may_leave : D → List ℕ → Ty
         all : (groups : List (List (Step Q A))) → Commits backend framing limits next to groups last at
             → PersistsFirst seen may_leave (durable_after groups (accepted_by (kept_of next)) (accepted_by (kept_of last))) (kept_of last)
             → PersistsFirst seen may_leave (accepted_by (kept_of last)) (kept_of last)
-        all [] (same, more) durable = subst (λ (b : B). PersistsFirst seen may_leave (accepted_by (kept_of b)) (kept_of b)) same (subst (λ (b : B). PersistsFirst seen may_leave (accepted_by (kept_of next)) (kept_of b)) (sym same) durable)
+        all [] (same, more) durable = subst (λ (b : B). PersistsFirst seen may_leave (accepted_by (kept_of b)) (kept_of last)) same durable
         all (group ∷ others) commits durable = durable
 
     leaves_answered : (why : PersistenceFault) (last : B) (to : F) (new : Option (List ℕ))

@@ -79,7 +79,7 @@ impl<D: Disk> Backend<Command, Response> for StoredConversation<D> {
 
     ghost execute_persists = { λ before command result after executes stored durable. share_persists D.Disk.seen D.Disk.may_leave before.kept after.kept executes.0 stored durable };
 
-    ghost commit_persists = { λ before after commits stored durable. commit_persists _ _ _ _ before.kept after.kept commits.0 stored durable };
+    ghost commit_persists = { λ before after commits stored durable. commit_persists D.Disk.seen D.Disk.may_leave D.Disk.faults D.Disk.is_clean before.kept after.kept commits.0 stored durable };
 }
 
 /// A conversation in frames over a durable repository: requests are executed at seat 0.
@@ -131,7 +131,7 @@ impl<D: Disk> Backend<Vec<u8>, Vec<u8>> for FramedStore<D> {
 
     ghost execute_persists = { λ before request result after executes stored durable. share_persists D.Disk.seen D.Disk.may_leave before.kept after.kept executes.0 stored durable };
 
-    ghost commit_persists = { λ before after commits stored durable. commit_persists _ _ _ _ before.kept after.kept commits stored durable };
+    ghost commit_persists = { λ before after commits stored durable. commit_persists D.Disk.seen D.Disk.may_leave D.Disk.faults D.Disk.is_clean before.kept after.kept commits stored durable };
 }
 
 // PersistsFirst all accepted calls.
