@@ -105,20 +105,25 @@ module _ {B F Q A C E H : Type 0} (backend : backends.Ghosts B Q A E C) (framing
     run_stops why gathers stop.Memory flushes = absurd flushes
     run_stops why gathers stop.Internal flushes = absurd flushes
 
-module _ {B F Q A C E H : Type 0} (backend : backends.Ghosts B Q A E C) (framing : framings.Ghosts F Q A H) where
+-- given the laws of a backend
+module _ {B F Q A C E H : Type 0} (backend : backends.Ghosts B Q A E C) (framing : framings.Ghosts F Q A H)
+    (execute_persists : (before : B) (request : Q) (result : Result A E) (after : B) → backend.executes before request result after
+    → (stored : backend.Contents) → backend.persists stored before → backend.persists stored after)
+    (commit_persists : (before after : B) → backend.commits before (Ok tt) after
+    → (stored : backend.Contents) → backend.persists stored before → backend.persists (backend.contents after) after) where
   follows_persist : (limits : GroupLimits) (before : B) (from : F) (pending : List ℕ) (steps : List (Step Q A)) (after : B) (to : F)
       → ExecutesInOrder backend framing limits before from pending steps after to → (stored : backend.Contents) → backend.persists stored before → backend.persists stored after
   follows_persist limits before from pending [] after to (same, same_too) stored durable = subst (λ (b : B). backend.persists stored b) same durable
   follows_persist limits before from pending (step ∷ steps) after to (next, on, one, ahead, more) stored durable =
       follows_persist limits next on (pending ++ framing.renders step.response) steps after to more stored
-      (backend.execute_persists before step.request (Ok step.response) next one.executes stored durable)
+      (execute_persists before step.request (Ok step.response) next one.executes stored durable)
 
   commits_persist : (limits : GroupLimits) (first : B) (from : F) (groups : List (List (Step Q A))) (last : B) (at : F) → Commits backend framing limits first from groups last at
       → (stored : backend.Contents) → backend.persists stored first → backend.persists (durable_after groups stored (backend.contents last)) last
   commits_persist limits first from [] last at (same, same_too) stored durable = subst (λ (b : B). backend.persists stored b) same durable
   commits_persist limits first from (steps ∷ groups) last at (executed, next, on, some, follows, committed, more) stored durable =
       all_persist groups more (commits_persist limits next on groups last at more (backend.contents next)
-      (backend.commit_persists executed next committed stored (follows_persist limits first from [] steps executed on follows stored durable)))
+      (commit_persists executed next committed stored (follows_persist limits first from [] steps executed on follows stored durable)))
     where
       all_persist : (groups : List (List (Step Q A))) → Commits backend framing limits next on groups last at
           → backend.persists (durable_after groups (backend.contents next) (backend.contents last)) last → backend.persists (backend.contents last) last
@@ -130,9 +135,9 @@ module _ {B F Q A C E H : Type 0} (backend : backends.Ghosts B Q A E C) (framing
   halts_persist halt.Pause middle at after to (same, more) stored durable = subst (λ (b : B). backend.persists stored b) same durable
   halts_persist halt.End middle at after to (same, more) stored durable = subst (λ (b : B). backend.persists stored b) same durable
   halts_persist (halt.Read why) middle at after to (same, more) stored durable = subst (λ (b : B). backend.persists stored b) same durable
-  halts_persist (halt.Execute why) middle at after to fails stored durable = backend.execute_persists middle fails.request (Err why) after fails.is.executes stored durable
+  halts_persist (halt.Execute why) middle at after to fails stored durable = execute_persists middle fails.request (Err why) after fails.is.executes stored durable
   halts_persist halt.Memory middle at after to loses stored durable =
-      backend.execute_persists middle loses.step.request (Ok loses.step.response) after loses.is.executes stored durable
+      execute_persists middle loses.step.request (Ok loses.step.response) after loses.is.executes stored durable
 
   module _ (limits : GroupLimits) (first : B) (from : F) (old : Option (List ℕ)) (stored : backend.Contents) (durable : backend.persists stored first) where
     executed_persists : (why : Halt E H) (result : Result (Unit {0}) (Stop C E H)) (last : B) (to : F) (new : Option (List ℕ))
@@ -146,7 +151,7 @@ module _ {B F Q A C E H : Type 0} (backend : backends.Ghosts B Q A E C) (framing
     committed_persists : (why : Halt E H) (result : Result (Unit {0}) (Stop C E H)) (last : B) (to : F) (new : Option (List ℕ))
         → (ends : EndsAfterGroup backend framing limits why result first from old last to new) → backend.commits ends.executed (Ok tt) last
         → backend.persists (backend.contents last) last
-    committed_persists why result last to new ends commits = backend.commit_persists ends.executed last commits _ (executed_persists why result last to new ends)
+    committed_persists why result last to new ends commits = commit_persists ends.executed last commits _ (executed_persists why result last to new ends)
 
     counted_persists : (groups : List (List (Step Q A))) (last : B) → length groups ≡ 2 ^ 64 - 1
         → backend.persists (durable_after groups stored (backend.contents last)) last → backend.persists (backend.contents last) last
