@@ -1,10 +1,12 @@
 -- Conversations grow by a group.
-use Rattle.std.proofs.Common.{◌≡◌, ℕ, ◌+◌, ◌-◌, ◌^◌, List, [], ◌∷◌, ◌++◌, length, Option, Result, Ok, Err, refl, sym, ◌∙◌, ap, subst, append-nil, arith, length-append, flat_map}
+use Rattle.std.proofs.Common.{◌≡◌, ℕ, ◌+◌, ◌-◌, ◌^◌, List, [], ◌∷◌, ◌++◌, length, Option, Result, Ok, Err, refl, sym, ◌∙◌, ap, subst, append-nil, append_assoc, arith, length-append, flat_map}
 use Rattle.std.proofs.KnownBytes.{Appends-nil, Appends-trans, Consumes-nil, Consumes-trans}
 use Rattle.std.proofs.lemmas.Grind.{flat_map-append}
 use Rattle.std.specs.Io.KnownBytes.{Appends, Consumes}
+use Rattle.std_io.specs.declared.io.error.Error.{Error}
 use Rattle.camp_talk.specs.Engine.Groups.{ExecutesInOrder, Halts, HasSteps, RunsGroup, Step, responses}
 use Rattle.camp_talk.specs.Engine.Runs.{Commits, EndsAfterGroup, FlushesGroup, HasRun, ResponsesAreDurable, RunsAll, StopsAfterGroup, UnlessCommitFails, durable_after}
+use Rattle.camp_talk.specs.Talks.{AppendsSome}
 use Rattle.camp_talk.specs.declared.engine.backends.Backend as backends
 use Rattle.camp_talk.specs.declared.engine.framings.Framing as framings
 use Rattle.camp_talk.specs.declared.engine.groups.GroupLimits.{GroupLimits}
@@ -82,7 +84,7 @@ module _ {B F Q A C E H : Type 0} (backend : backends.Ghosts B Q A E C) (framing
             ap (λ (l : List ℕ). flat_map (responses backend framing) earlier.groups ++ l) (sym (append-nil (responses backend framing steps)))
             ∙ sym (flat_map-append (responses backend framing) earlier.groups (steps ∷ []))
 
-    ends : (why : Halt E H) → RunsGroup backend framing limits begun at why executed to text → (result : Result (Unit {0}) (Stop C E H))
+    ends : (why : Halt A E H) → RunsGroup backend framing limits begun at why executed to text → (result : Result (Unit {0}) (Stop C E H))
         → FlushesGroup backend executed text held result last new → EndsAfterGroup backend framing limits why result first from old last to new
     ends why gathers result flushes = record {
       begun = begun;
@@ -96,14 +98,28 @@ module _ {B F Q A C E H : Type 0} (backend : backends.Ghosts B Q A E C) (framing
     }
 
     -- a commit or a write has failed
-    pub run_stops : (why : Halt E H) → RunsGroup backend framing limits begun at why executed to text → (fault : Stop C E H)
+    pub run_stops : (why : Halt A E H) → RunsGroup backend framing limits begun at why executed to text → (fault : Stop C E H)
         → FlushesGroup backend executed text held (Err fault) last new → RunsAll backend framing limits first from old (Err fault) last to new
     run_stops why gathers (stop.Commit fault) flushes = record { why = why; ends = ends why gathers (Err (stop.Commit fault)) flushes }
     run_stops why gathers (stop.Write error) flushes = record { why = why; ends = ends why gathers (Err (stop.Write error)) flushes }
     run_stops why gathers (stop.Read fault) flushes = absurd flushes
     run_stops why gathers (stop.Execute fault) flushes = absurd flushes
-    run_stops why gathers stop.Memory flushes = absurd flushes
     run_stops why gathers stop.Internal flushes = absurd flushes
+
+-- pending responses were written, and then one more, or a prefix of it
+module _ {B Q A C E H : Type 0} (backend : backends.Ghosts B Q A E C) (executed : B) (text : List ℕ) (old held : Option (List ℕ)) (last : B) (done : Unit {0})
+    (flushes : FlushesGroup {H = H} backend executed text old (Ok done) last held) (more : List ℕ) (new : Option (List ℕ)) where
+  pub flushes_more : Appends held new more → FlushesGroup {H = H} backend executed (text ++ more) old (Ok done) last new
+  flushes_more writes = (flushes.0, Appends-trans old held new text more flushes.1 writes)
+
+  pub flushes_some : (error : Error) → AppendsSome held new more → FlushesGroup {H = H} backend executed (text ++ more) old (Err (stop.Write error)) last new
+  flushes_some error (some, rest, is, writes) = (
+    flushes.0,
+    text ++ some,
+    rest,
+    ap (λ (l : List ℕ). text ++ l) is ∙ sym (append_assoc text some rest),
+    Appends-trans old held new text some flushes.1 writes,
+  )
 
 -- given the laws of a backend
 module _ {B F Q A C E H : Type 0} (backend : backends.Ghosts B Q A E C) (framing : framings.Ghosts F Q A H)
@@ -130,17 +146,18 @@ module _ {B F Q A C E H : Type 0} (backend : backends.Ghosts B Q A E C) (framing
       all_persist [] (same, same_too) durable = subst (λ (b : B). backend.persists (backend.contents b) last) same durable
       all_persist (group ∷ others) commits durable = durable
 
-  halts_persist : (why : Halt E H) (middle : B) (at : F) (after : B) (to : F) → Halts backend framing middle at why after to
+  halts_persist : (why : Halt A E H) (middle : B) (at : F) (after : B) (to : F) → Halts backend framing middle at why after to
       → (stored : backend.Contents) → backend.persists stored middle → backend.persists stored after
   halts_persist halt.Pause middle at after to (same, more) stored durable = subst (λ (b : B). backend.persists stored b) same durable
   halts_persist halt.End middle at after to (same, more) stored durable = subst (λ (b : B). backend.persists stored b) same durable
   halts_persist (halt.Read why) middle at after to (same, more) stored durable = subst (λ (b : B). backend.persists stored b) same durable
-  halts_persist (halt.Execute why) middle at after to fails stored durable = execute_persists middle fails.request (Err why) after fails.is.executes stored durable
-  halts_persist halt.Memory middle at after to loses stored durable =
-      execute_persists middle loses.step.request (Ok loses.step.response) after loses.is.executes stored durable
+  halts_persist (halt.Execute why) middle at after to executes stored durable =
+      execute_persists middle executes.request (Err why) after executes.is.executes stored durable
+  halts_persist (halt.Unbuffered response) middle at after to executes stored durable =
+      execute_persists middle executes.request (Ok response) after executes.is.executes stored durable
 
   module _ (limits : GroupLimits) (first : B) (from : F) (old : Option (List ℕ)) (stored : backend.Contents) (durable : backend.persists stored first) where
-    executed_persists : (why : Halt E H) (result : Result (Unit {0}) (Stop C E H)) (last : B) (to : F) (new : Option (List ℕ))
+    executed_persists : (why : Halt A E H) (result : Result (Unit {0}) (Stop C E H)) (last : B) (to : F) (new : Option (List ℕ))
         → (ends : EndsAfterGroup backend framing limits why result first from old last to new)
         → backend.persists (durable_after ends.earlier.groups stored (backend.contents ends.begun)) ends.executed
     executed_persists why result last to new ends =
@@ -148,7 +165,7 @@ module _ {B F Q A C E H : Type 0} (backend : backends.Ghosts B Q A E C) (framing
         (follows_persist limits ends.begun ends.at [] ends.gathers.gathered.steps ends.gathers.middle ends.gathers.at ends.gathers.gathered.follows _
         (commits_persist limits first from ends.earlier.groups ends.begun ends.at ends.earlier.commits stored durable))
 
-    committed_persists : (why : Halt E H) (result : Result (Unit {0}) (Stop C E H)) (last : B) (to : F) (new : Option (List ℕ))
+    committed_persists : (why : Halt A E H) (result : Result (Unit {0}) (Stop C E H)) (last : B) (to : F) (new : Option (List ℕ))
         → (ends : EndsAfterGroup backend framing limits why result first from old last to new) → backend.commits ends.executed (Ok tt) last
         → backend.persists (backend.contents last) last
     committed_persists why result last to new ends commits = commit_persists ends.executed last commits _ (executed_persists why result last to new ends)
@@ -165,7 +182,6 @@ module _ {B F Q A C E H : Type 0} (backend : backends.Ghosts B Q A E C) (framing
     run_persists (Err (stop.Write error)) last to new runs = committed_persists runs.why (Err (stop.Write error)) last to new runs.ends runs.ends.flushes.0
     run_persists (Err (stop.Read why)) last to new runs = committed_persists (halt.Read why) (Ok tt) last to new runs runs.flushes.0
     run_persists (Err (stop.Execute why)) last to new runs = committed_persists (halt.Execute why) (Ok tt) last to new runs runs.flushes.0
-    run_persists (Err stop.Memory) last to new runs = committed_persists halt.Memory (Ok tt) last to new runs runs.flushes.0
     run_persists (Err stop.Internal) last to new (done, counted) =
         counted_persists done.groups last counted (commits_persist limits first from done.groups last to done.commits stored durable)
 

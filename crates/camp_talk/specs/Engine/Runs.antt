@@ -20,7 +20,6 @@ module _ {B Q A C E H : Type 0} (backend : backends.Ghosts B Q A E C) where
   FlushesGroup before text old (Err (stop.Write error)) after new = backend.commits before (Ok tt) after × AppendsSome old new text
   FlushesGroup before text old (Err (stop.Read why)) after new = ⊥
   FlushesGroup before text old (Err (stop.Execute why)) after new = ⊥
-  FlushesGroup before text old (Err stop.Memory) after new = ⊥
   FlushesGroup before text old (Err stop.Internal) after new = ⊥
 
 module _ {B F Q A C E H : Type 0} (backend : backends.Ghosts B Q A E C) (framing : framings.Ghosts F Q A H) (limits : GroupLimits) where
@@ -40,7 +39,7 @@ module _ {B F Q A C E H : Type 0} (backend : backends.Ghosts B Q A E C) (framing
     pub writes : Appends old new (flat_map (λ steps. responses backend framing steps) groups)
 
   -- after groups that were committed and written comes a last group, which ended for this reason
-  pub record EndsAfterGroup (why : Halt E H) (result : Result (Unit {0}) (Stop C E H)) (first : B) (from : F) (old : Option (List ℕ)) (last : B) (to : F)
+  pub record EndsAfterGroup (why : Halt A E H) (result : Result (Unit {0}) (Stop C E H)) (first : B) (from : F) (old : Option (List ℕ)) (last : B) (to : F)
       (new : Option (List ℕ)) : Type 0 where
     pub begun : B
     pub at : F
@@ -54,20 +53,19 @@ module _ {B F Q A C E H : Type 0} (backend : backends.Ghosts B Q A E C) (framing
   -- the same, for some last group
   pub record StopsAfterGroup (result : Result (Unit {0}) (Stop C E H)) (first : B) (from : F) (old : Option (List ℕ)) (last : B) (to : F)
       (new : Option (List ℕ)) : Type 0 where
-    pub why : Halt E H
+    pub why : Halt A E H
     pub ends : EndsAfterGroup why result first from old last to new
 
   -- a conversation. Ok: the input has ended, everything is committed, and all responses were written. Commit: a commit
   -- failed, and no response of its group was written. Write: the last group is committed, and a prefix of its responses
-  -- was written. Read, Execute, Memory: no request could be read, or one was not executed, or its response could not be
-  -- buffered; everything is committed, and all other responses were written. Internal: there were 2^64 - 1 groups.
+  -- was written. Read, Execute: no request could be read, or one was not executed; everything is committed, and all
+  -- other responses were written. Internal: there were 2^64 - 1 groups.
   abbrev pub RunsAll : B → F → Option (List ℕ) → Result (Unit {0}) (Stop C E H) → B → F → Option (List ℕ) → Type 0
   RunsAll first from old (Ok done) last to new = EndsAfterGroup halt.End (Ok done) first from old last to new
   RunsAll first from old (Err (stop.Commit why)) last to new = StopsAfterGroup (Err (stop.Commit why)) first from old last to new
   RunsAll first from old (Err (stop.Write error)) last to new = StopsAfterGroup (Err (stop.Write error)) first from old last to new
   RunsAll first from old (Err (stop.Read why)) last to new = EndsAfterGroup (halt.Read why) (Ok tt) first from old last to new
   RunsAll first from old (Err (stop.Execute why)) last to new = EndsAfterGroup (halt.Execute why) (Ok tt) first from old last to new
-  RunsAll first from old (Err stop.Memory) last to new = EndsAfterGroup halt.Memory (Ok tt) first from old last to new
   RunsAll first from old (Err stop.Internal) last to new =
       (done : HasRun first from old last to new) × (length done.groups ≡ 2 ^ 64 - 1)
 

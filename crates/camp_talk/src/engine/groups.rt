@@ -15,7 +15,7 @@ pub struct GroupLimits {
 
 /// Why a group has ended.
 #[derive(Debug, Drop)]
-pub(crate) enum Halt<B, F> {
+pub(crate) enum Halt<A, B, F> {
     /// A commit is due before more is read.
     Pause,
     /// The input has ended.
@@ -24,8 +24,8 @@ pub(crate) enum Halt<B, F> {
     Read(F),
     /// A request was not executed.
     Execute(B),
-    /// A request was executed, and memory ran out for its response.
-    Memory,
+    /// A request was executed, and memory ran out for this response among the pending ones.
+    Unbuffered(A),
 }
 
 /// Reads and executes requests and buffers their responses, as long as a complete request was read ahead and little is
@@ -35,7 +35,7 @@ pub(crate) fn gather<Q, A: Drop, B: Backend<Q, A>, F: Framing<Q, A>>(
     framing: &mut F,
     pending: &mut Vec<u8>,
     limits: GroupLimits,
-) -> Halt<B::Fault, F::Fault>
+) -> Halt<A, B::Fault, F::Fault>
     requires { pending.old.items ≡ [] }
     ensures { RunsGroup B.Backend F.Framing limits backend.old framing.old result backend.new framing.new pending.new.items }
 {
@@ -59,7 +59,7 @@ fn take_one<Q, A: Drop, B: Backend<Q, A>, F: Framing<Q, A>>(
     backend: &mut B,
     framing: &mut F,
     pending: &mut Vec<u8>,
-) -> Option<Halt<B::Fault, F::Fault>>
+) -> Option<Halt<A, B::Fault, F::Fault>>
     ensures { TakesOne B.Backend F.Framing backend.old framing.old pending.old.items result backend.new framing.new pending.new.items }
 {
     let request = match framing.read_request() {
@@ -71,8 +71,12 @@ fn take_one<Q, A: Drop, B: Backend<Q, A>, F: Framing<Q, A>>(
         Ok(response) => response,
         Err(why) => return Some(Halt::Execute(why)),
     };
+    let start = pending.len();
     match framing.write_response(&response, pending) {
         Ok(()) => None,
-        Err(_) => Some(Halt::Memory),
+        Err(_) => {
+            pending.truncate(start);
+            Some(Halt::Unbuffered(response))
+        }
     }
 }

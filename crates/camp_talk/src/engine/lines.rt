@@ -11,8 +11,9 @@ use crate::prompts::Prompting;
 use crate::readiness::begin_with_command;
 use crate::readings::{Command, read_command};
 use crate::responses::Response;
-use std::alloc::{AllocError, Global};
-use std::io::{BufRead, BufReader, Read, Write};
+use crate::write_answer;
+use std::alloc::Global;
+use std::io::{self, BufRead, BufReader, Read, Write};
 
 /// Reads commands in lines, and writes their answers.
 #[derive(Drop)]
@@ -60,8 +61,8 @@ impl<R: Read> Framing<Command, Response> for Lines<R> {
         Ok(Some(next_command(self.alloc, &mut self.reader, &mut self.is_ended)?))
     }
 
-    fn write_response(&self, response: &Response, pending: &mut Vec<u8>) -> Result<(), AllocError> {
-        append_response(response, pending)
+    fn write_response<O: Write>(&self, response: &Response, writer: &mut O) -> io::Result<()> {
+        write_answer(writer, response.bytes())
     }
 
     fn is_ready(&self) -> bool {
@@ -115,8 +116,8 @@ impl<R: BufRead, W: Write> Framing<Command, Response> for Prompts<R, W> {
         Ok(Some(next_command(self.alloc, &mut self.reader, &mut self.is_ended)?))
     }
 
-    fn write_response(&self, response: &Response, pending: &mut Vec<u8>) -> Result<(), AllocError> {
-        append_response(response, pending)
+    fn write_response<O: Write>(&self, response: &Response, writer: &mut O) -> io::Result<()> {
+        write_answer(writer, response.bytes())
     }
 
     fn is_ready(&self) -> bool {
@@ -139,12 +140,4 @@ fn next_command<R: BufRead>(
     let command = read_command(alloc, reader)?;
     *is_ended = !command.is_whole;
     Ok(command)
-}
-
-// Appends the answer of a response. If memory runs out, nothing is appended.
-fn append_response(response: &Response, pending: &mut Vec<u8>) -> Result<(), AllocError>
-    ensures appends { OnOk result (pending.new.items ≡ pending.old.items ++ written response.now) }
-    ensures same { OnErr result (pending.new.items ≡ pending.old.items) }
-{
-    pending.extend_from_slice(response.bytes())
 }

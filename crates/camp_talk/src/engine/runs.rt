@@ -19,9 +19,6 @@ pub enum Stop<C, B, F> {
     Read(F),
     /// A request was not executed. Everything is committed, and all other responses were written.
     Execute(B),
-    /// Memory ran out for the response to a request, which was executed. Everything is committed, and all other
-    /// responses were written.
-    Memory,
     /// There were 2^64 - 1 groups. No conversation reaches that.
     Internal,
 }
@@ -49,7 +46,11 @@ pub fn run<Q, A: Drop, B: Backend<Q, A>, F: Framing<Q, A>, W: Write>(
             Halt::End => return Ok(()),
             Halt::Read(why) => return Err(Stop::Read(why)),
             Halt::Execute(why) => return Err(Stop::Execute(why)),
-            Halt::Memory => return Err(Stop::Memory),
+            Halt::Unbuffered(response) => {
+                if let Err(error) = framing.write_response(&response, writer) {
+                    return Err(Stop::Write(error));
+                }
+            }
         }
     }
     Err(Stop::Internal)
