@@ -49,14 +49,14 @@ module _ {D : Type 0} (seen : D → List ℕ) (may_leave : D → List ℕ → Ty
       shares_through (kept_of before) (kept_of next) (kept_of after) (over.executes before step.request (Ok step.response) next one.executes)
       (follows_share next on (pending ++ framing.renders step.response) steps after to more)
 
-  halts_share : (why : Halt E H) (middle : B) (at : F) (after : B) (to : F) → Halts backend framing middle at why after to → SharesStore (kept_of middle) (kept_of after)
+  halts_share : (why : Halt A E H) (middle : B) (at : F) (after : B) (to : F) → Halts backend framing middle at why after to → SharesStore (kept_of middle) (kept_of after)
   halts_share halt.Pause middle at after to (same, more) = shares_same middle after same
   halts_share halt.End middle at after to (same, more) = shares_same middle after same
   halts_share (halt.Read why) middle at after to (same, more) = shares_same middle after same
-  halts_share (halt.Execute why) middle at after to fails = over.executes middle fails.request (Err why) after fails.is.executes
-  halts_share halt.Memory middle at after to loses = over.executes middle loses.step.request (Ok loses.step.response) after loses.is.executes
+  halts_share (halt.Execute why) middle at after to executes = over.executes middle executes.request (Err why) after executes.is.executes
+  halts_share (halt.Unbuffered response) middle at after to executes = over.executes middle executes.request (Ok response) after executes.is.executes
 
-  group_shares : (before : B) (from : F) (why : Halt E H) (after : B) (to : F) (text : List ℕ) → RunsGroup backend framing limits before from why after to text
+  group_shares : (before : B) (from : F) (why : Halt A E H) (after : B) (to : F) (text : List ℕ) → RunsGroup backend framing limits before from why after to text
       → SharesStore (kept_of before) (kept_of after)
   group_shares before from why after to text runs =
       shares_through (kept_of before) (kept_of runs.middle) (kept_of after)
@@ -98,14 +98,14 @@ module _ {D : Type 0} (seen : D → List ℕ) (may_leave : D → List ℕ → Ty
       ∙ shares_counts (kept_of first) (kept_of executed) (follows_share first from [] steps executed on follows)
 
   module _ (first : B) (from : F) (old : Option (List ℕ)) where
-    executed_counts : (why : Halt E H) (result : Result (Unit {0}) (Stop PersistenceFault E H)) (last : B) (to : F) (new : Option (List ℕ))
+    executed_counts : (why : Halt A E H) (result : Result (Unit {0}) (Stop PersistenceFault E H)) (last : B) (to : F) (new : Option (List ℕ))
         → (ends : EndsAfterGroup backend framing limits why result first from old last to new)
         → faults (disk_in (kept_of ends.executed)) ≡ faults (disk_in (kept_of first))
     executed_counts why result last to new ends =
         shares_counts (kept_of ends.begun) (kept_of ends.executed) (group_shares ends.begun ends.at why ends.executed to ends.text ends.gathers)
         ∙ groups_count first from ends.earlier.groups ends.begun ends.at ends.earlier.commits
 
-    committed_counts : (why : Halt E H) (result : Result (Unit {0}) (Stop PersistenceFault E H)) (last : B) (to : F) (new : Option (List ℕ))
+    committed_counts : (why : Halt A E H) (result : Result (Unit {0}) (Stop PersistenceFault E H)) (last : B) (to : F) (new : Option (List ℕ))
         → (ends : EndsAfterGroup backend framing limits why result first from old last to new) → backend.commits ends.executed (Ok tt) last
         → faults (disk_in (kept_of last)) ≡ faults (disk_in (kept_of first))
     committed_counts why result last to new ends commits = commit_counts ends.executed last commits ∙ executed_counts why result last to new ends
@@ -119,19 +119,18 @@ module _ {D : Type 0} (seen : D → List ℕ) (may_leave : D → List ℕ → Ty
     run_counts (Err (stop.Write error)) last to new runs = committed_counts runs.why (Err (stop.Write error)) last to new runs.ends runs.ends.flushes.0
     run_counts (Err (stop.Read why)) last to new runs = committed_counts (halt.Read why) (Ok tt) last to new runs runs.flushes.0
     run_counts (Err (stop.Execute why)) last to new runs = committed_counts (halt.Execute why) (Ok tt) last to new runs runs.flushes.0
-    run_counts (Err stop.Memory) last to new runs = committed_counts halt.Memory (Ok tt) last to new runs runs.flushes.0
     run_counts (Err stop.Internal) last to new (done, counted) = groups_count first from done.groups last to done.commits
 
     -- ---- a conversation by which no commit is possible
 
     module _ (stopped : may_commit (kept_of first) ≡ false) where
-      executed_stopped : (why : Halt E H) (result : Result (Unit {0}) (Stop PersistenceFault E H)) (last : B) (to : F) (new : Option (List ℕ))
+      executed_stopped : (why : Halt A E H) (result : Result (Unit {0}) (Stop PersistenceFault E H)) (last : B) (to : F) (new : Option (List ℕ))
           → (ends : EndsAfterGroup backend framing limits why result first from old last to new) → SharesStore (kept_of first) (kept_of ends.executed)
       executed_stopped why result last to new ends =
           subst (λ (b : B). SharesStore (kept_of b) (kept_of ends.executed)) (sym (no_group first from ends.earlier.groups ends.begun ends.at ends.earlier.commits stopped).1)
           (group_shares ends.begun ends.at why ends.executed to ends.text ends.gathers)
 
-      never_committed : (why : Halt E H) (result : Result (Unit {0}) (Stop PersistenceFault E H)) (last : B) (to : F) (new : Option (List ℕ))
+      never_committed : (why : Halt A E H) (result : Result (Unit {0}) (Stop PersistenceFault E H)) (last : B) (to : F) (new : Option (List ℕ))
           → (ends : EndsAfterGroup backend framing limits why result first from old last to new) → backend.commits ends.executed (Ok tt) last → ⊥
       never_committed why result last to new ends commits =
           no_commit ends.executed last (still_stopped (kept_of first) (kept_of ends.executed) (executed_stopped why result last to new ends) stopped) commits
@@ -182,7 +181,6 @@ module _ {D : Type 0} (seen : D → List ℕ) (may_leave : D → List ℕ → Ty
       run_stopped (Err (stop.Write error)) last to new runs = absurd (never_committed runs.why (Err (stop.Write error)) last to new runs.ends runs.ends.flushes.0)
       run_stopped (Err (stop.Read why)) last to new runs = absurd (never_committed (halt.Read why) (Ok tt) last to new runs runs.flushes.0)
       run_stopped (Err (stop.Execute why)) last to new runs = absurd (never_committed (halt.Execute why) (Ok tt) last to new runs runs.flushes.0)
-      run_stopped (Err stop.Memory) last to new runs = absurd (never_committed halt.Memory (Ok tt) last to new runs runs.flushes.0)
       run_stopped (Err stop.Internal) last to new (done, counted) =
           absurd (omega (arith, counted, ap (λ (gs : List (List (Step Q A))). length gs) (no_group first from done.groups last to done.commits stopped).0))
 

@@ -84,7 +84,6 @@ fn ending<C, H: Into<FrameFault>>(stop: camp_talk::Stop<C, TalkFault, H>) -> End
         camp_talk::Stop::Read(fault) => Ending::Talk(fault.into()),
         camp_talk::Stop::Execute(fault) => Ending::Talk(FrameFault::Talk(fault)),
         camp_talk::Stop::Write(error) => Ending::Talk(FrameFault::Talk(TalkFault::Write(error))),
-        camp_talk::Stop::Memory => Ending::Talk(FrameFault::Talk(TalkFault::Memory)),
         camp_talk::Stop::Internal => Ending::Talk(FrameFault::Talk(TalkFault::Internal)),
     }
 }

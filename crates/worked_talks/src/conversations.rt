@@ -138,7 +138,6 @@ fn talk_fault<H: Into<FrameFault>>(stop: Stop<TalkFault, TalkFault, H>) -> TalkF
     match stop {
         Stop::Commit(fault) | Stop::Execute(fault) => fault,
         Stop::Write(error) => TalkFault::Write(error),
-        Stop::Memory => TalkFault::Memory,
         Stop::Internal => TalkFault::Internal,
         Stop::Read(fault) => match fault.into() {
             FrameFault::Talk(fault) => fault,
