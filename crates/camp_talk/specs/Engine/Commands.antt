@@ -13,7 +13,7 @@ use Rattle.camp_talk.specs.Requests.{AnswersRequest, AnswersSome, IsUnanswered}
 use Rattle.camp_talk.specs.Talks.{ReadsCommand, ReadsWithin}
 use Rattle.camp_talk.specs.declared.faults.TalkFault.{TalkFault}
 use Rattle.camp_talk.specs.declared.faults.TalkFault.TheVariants as fault
-use Rattle.camp_talk.specs.declared.questions.ParsedCommand.TheVariants as parsed
+use Rattle.camp_talk.specs.declared.questions.ParsedCommand.TheVariants.{Nothing}
 use Rattle.camp_talk.specs.declared.readings.Command.{Command}
 use Rattle.camp_talk.specs.declared.responses.Response.{Response}
 
@@ -22,7 +22,7 @@ use Rattle.camp_talk.specs.declared.responses.Response.{Response}
 pub record IsReadAs (command : Command) (bytes : List ℕ) : Type 0 where
   pub lines : lines_of command.bytes.items ≡ lines_in bytes
   pub parsed : Gives command.parsed (parsed_command bytes)
-  pub silent : is_silent bytes ≡ true → command.parsed ≡ Ok parsed.Nothing
+  pub silent : is_silent bytes ≡ true → command.parsed ≡ Ok Nothing
 
 -- exactly these bytes were read, as this command: a complete one; or what the end of the input has left of one, and then
 -- there is no further one
