@@ -18,6 +18,7 @@ pub mod Parts
 pub mod QuestionWords
 pub mod RequestLemmas
 pub mod RunLemmas
+pub mod Served
 pub mod Skipped
 pub mod AnswerLemmas
 pub mod StepLemmas

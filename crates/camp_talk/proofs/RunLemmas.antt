@@ -32,7 +32,7 @@ module _ {B F Q A C E H : Type 0} (backend : backends.Ghosts B Q A E C) (framing
   commits_more first from (group ∷ groups) begun at steps executed to last (done, next, on, several, follow, settled, more) some follows committed =
       (done, next, on, several, follow, settled, commits_more next on groups begun at steps executed to last more some follows committed)
 
-  follows_read : (before : B) (from : F) (pending : List ℕ) (steps : List (Step Q A)) (after : B) (to : F)
+  pub follows_read : (before : B) (from : F) (pending : List ℕ) (steps : List (Step Q A)) (after : B) (to : F)
       → ExecutesInOrder backend framing limits before from pending steps after to
       → Consumes (framing.remaining from) (framing.remaining to) (flat_map (λ (step : Step Q A). step.bytes) steps)
   follows_read before from pending [] after to (same, same_too) =

@@ -2,3 +2,4 @@ pub mod Commands
 pub mod Framings
 pub mod Groups
 pub mod Runs
+pub mod Services
