@@ -52,7 +52,7 @@ pub use frames::FrameFault;
 pub use laws::{
     causes_are_reported, counts_match_lines, failures_are_reported, faults_are_described,
     keep_restores_history, recovery_follows_cut_off, refusals_are_described,
-    shown_bytes_are_printable, unserved_bytes_have_no_frame,
+    requests_are_served_in_turn, shown_bytes_are_printable, unserved_bytes_have_no_frame,
 };
 pub use loads::load;
 pub use question_answers::answer_question;
