@@ -3,15 +3,17 @@ use Rattle.std.proofs.Common.{◌≡◌, ℕ, ◌-◌, ◌^◌, Bool, false, Lis
 use Rattle.std.specs.Io.KnownBytes.{Appends, Keeps}
 use Rattle.camp_kept.specs.Accepting.{StoreContents}
 use Rattle.camp_kept.specs.Faults.{ReportsDiskFault}
-use Rattle.camp_kept.specs.Persisting.{accepted_by, disk_in, may_commit}
+use Rattle.camp_kept.specs.Persisting.{LeavesRepository, PersistsCalls, accepted_by, disk_in, may_commit}
 use Rattle.camp_kept.specs.declared.faults.PersistenceFault.{PersistenceFault}
+use Rattle.camp_kept.specs.declared.faults.PersistenceFault.TheVariants as fault
 use Rattle.camp_kept.specs.declared.repositories.DurableRepository.{DurableRepository}
 use Rattle.camp_kept_talk.specs.DurableLaws.{commit_persists, share_persists}
-use Rattle.camp_kept_talk.specs.Conversations.{CommitsStore, MayLeave, PersistsFirst, SharesStore, stopped_fault}
+use Rattle.camp_kept_talk.specs.Conversations.{CommitsStore, LeavesDurable, MayLeave, PersistsFirst, SharesStore, stopped_fault}
 use Rattle.camp_kept_talk.specs.Laws.{IsOverStore, LeavesAnswered, ReportsFaultOf, StoresKeepPromises}
 use Rattle.camp_object.proofs.SameBooks.{earlier_self, earlier_through}
+use Rattle.camp_store.specs.declared.faults.StoreFault.TheVariants as store_fault
 use Rattle.camp_talk.specs.Engine.Groups.{ExecutesInOrder, Halts, RunsGroup, Step, responses}
-use Rattle.camp_talk.specs.Engine.Runs.{Commits, EndsAfterGroup, RunsAll, StopsAfterGroup, durable_after}
+use Rattle.camp_talk.specs.Engine.Runs.{Commits, EndsAfterGroup, RunsAll, StopsAfterGroup, UnlessCommitFails, durable_after}
 use Rattle.camp_talk.specs.declared.engine.backends.Backend as backends
 use Rattle.camp_talk.specs.declared.engine.framings.Framing as framings
 use Rattle.camp_talk.specs.declared.engine.groups.GroupLimits.{GroupLimits}
@@ -35,6 +37,23 @@ err_no_ok why result done err ok = subst is_err (sym err ∙ ok) tt
     is_err : Result (Unit {0}) PersistenceFault → Type 0
     is_err (Ok done) = ⊥
     is_err (Err why) = Unit {0}
+
+module _ {D : Type 0} (seen : D → List ℕ) (may_leave : D → List ℕ → Type 0) where
+  still_durable : (stored : StoreContents) (old new : DurableRepository D) → PersistsCalls seen may_leave stored old → new ≡ old → PersistsCalls seen may_leave stored new
+  still_durable stored old new durable same = subst (λ (kept : DurableRepository D). PersistsCalls seen may_leave stored kept) (sym same) durable
+
+  -- durable calls are still so after a failed commit, unless the disk has failed
+  leaves_durable : (why : PersistenceFault) (stored : StoreContents) (old new : DurableRepository D) → PersistsCalls seen may_leave stored old → LeavesRepository why old new
+      → LeavesDurable seen may_leave why stored new
+  leaves_durable (fault.Store (store_fault.Disk error)) stored old new durable leaves = leaves
+  leaves_durable (fault.Store store_fault.Memory) stored old new durable leaves = still_durable stored old new durable leaves
+  leaves_durable (fault.Store store_fault.TooLong) stored old new durable leaves = still_durable stored old new durable leaves
+  leaves_durable (fault.Store (store_fault.Damaged texts at)) stored old new durable leaves = still_durable stored old new durable leaves
+  leaves_durable (fault.Store store_fault.Failed) stored old new durable leaves = still_durable stored old new durable leaves
+  leaves_durable fault.Memory stored old new durable leaves = still_durable stored old new durable leaves
+  leaves_durable fault.NoStore stored old new durable leaves = still_durable stored old new durable leaves
+  leaves_durable (fault.Damaged call at) stored old new durable leaves = still_durable stored old new durable leaves
+  leaves_durable (fault.OtherLimits catches branches) stored old new durable leaves = still_durable stored old new durable leaves
 
 module _ {D : Type 0} (seen : D → List ℕ) (may_leave : D → List ℕ → Type 0) (faults : D → ℕ) (is_clean : D → Bool) {B F Q A E H : Type 0}
     (backend : backends.Ghosts B Q A E PersistenceFault) (framing : framings.Ghosts F Q A H) (kept_of : B → DurableRepository D)
@@ -82,44 +101,70 @@ module _ {D : Type 0} (seen : D → List ℕ) (may_leave : D → List ℕ → Ty
   no_group first from (steps ∷ groups) last at (executed, next, on, some, follows, committed, more) stopped =
       absurd (no_commit executed next (still_stopped (kept_of first) (kept_of executed) (follows_share first from [] steps executed on follows) stopped) committed)
 
-  -- ---- faults of the disk
+  -- ---- what commits that succeed do not change about a disk: the number of its faults, and that it is clean
 
-  commit_counts : (before : B) (after : B) → backend.commits before (Ok tt) after → faults (disk_in (kept_of after)) ≡ faults (disk_in (kept_of before))
+  module _ {X : Type 0} (part : D → X) (stays : (before after : B) → backend.commits before (Ok tt) after → part (disk_in (kept_of after)) ≡ part (disk_in (kept_of before))) where
+    shares_stay : (one two : DurableRepository D) → SharesStore one two → part (disk_in two) ≡ part (disk_in one)
+    shares_stay one two shares = ap part (same_disk one two shares)
+
+    groups_stay : (first : B) (from : F) (groups : List (List (Step Q A))) (last : B) (at : F) → Commits backend framing limits first from groups last at
+        → part (disk_in (kept_of last)) ≡ part (disk_in (kept_of first))
+    groups_stay first from [] last at (same, more) = ap (λ (b : B). part (disk_in (kept_of b))) (sym same)
+    groups_stay first from (steps ∷ groups) last at (executed, next, on, some, follows, committed, more) =
+        groups_stay next on groups last at more ∙ stays executed next committed
+        ∙ shares_stay (kept_of first) (kept_of executed) (follows_share first from [] steps executed on follows)
+
+    module _ (first : B) (from : F) (old : Option (List ℕ)) (why : Halt A E H) (result : Result (Unit {0}) (Stop PersistenceFault E H)) (last : B) (to : F) (new : Option (List ℕ))
+        (ends : EndsAfterGroup backend framing limits why result first from old last to new) where
+      executed_stays : part (disk_in (kept_of ends.executed)) ≡ part (disk_in (kept_of first))
+      executed_stays =
+          shares_stay (kept_of ends.begun) (kept_of ends.executed) (group_shares ends.begun ends.at why ends.executed to ends.text ends.gathers)
+          ∙ groups_stay first from ends.earlier.groups ends.begun ends.at ends.earlier.commits
+
+      committed_stays : backend.commits ends.executed (Ok tt) last → part (disk_in (kept_of last)) ≡ part (disk_in (kept_of first))
+      committed_stays commits = stays ends.executed last commits ∙ executed_stays
+
+    -- unless a commit has failed
+    run_stays : (first : B) (from : F) (old : Option (List ℕ)) (result : Result (Unit {0}) (Stop PersistenceFault E H)) (last : B) (to : F) (new : Option (List ℕ))
+        → RunsAll backend framing limits first from old result last to new → UnlessCommitFails result (part (disk_in (kept_of last)) ≡ part (disk_in (kept_of first)))
+    run_stays first from old (Ok done) last to new runs = committed_stays first from old halt.End (Ok tt) last to new runs runs.flushes.0
+    run_stays first from old (Err (stop.Commit why)) last to new runs = tt
+    run_stays first from old (Err (stop.Write error)) last to new runs = committed_stays first from old runs.why (Err (stop.Write error)) last to new runs.ends runs.ends.flushes.0
+    run_stays first from old (Err (stop.Read why)) last to new runs = committed_stays first from old (halt.Read why) (Ok tt) last to new runs runs.flushes.0
+    run_stays first from old (Err (stop.Execute why)) last to new runs = committed_stays first from old (halt.Execute why) (Ok tt) last to new runs runs.flushes.0
+    run_stays first from old (Err stop.Internal) last to new (done, counted) = groups_stay first from done.groups last to done.commits
+
+  commit_counts : (before after : B) → backend.commits before (Ok tt) after → faults (disk_in (kept_of after)) ≡ faults (disk_in (kept_of before))
   commit_counts before after commits = (over.commits before (Ok tt) after commits).counts
 
-  shares_counts : (one two : DurableRepository D) → SharesStore one two → faults (disk_in two) ≡ faults (disk_in one)
-  shares_counts one two shares = ap faults (same_disk one two shares)
-
-  groups_count : (first : B) (from : F) (groups : List (List (Step Q A))) (last : B) (at : F) → Commits backend framing limits first from groups last at
-      → faults (disk_in (kept_of last)) ≡ faults (disk_in (kept_of first))
-  groups_count first from [] last at (same, more) = ap (λ (b : B). faults (disk_in (kept_of b))) (sym same)
-  groups_count first from (steps ∷ groups) last at (executed, next, on, some, follows, committed, more) =
-      groups_count next on groups last at more ∙ commit_counts executed next committed
-      ∙ shares_counts (kept_of first) (kept_of executed) (follows_share first from [] steps executed on follows)
+  commit_clean : (before after : B) → backend.commits before (Ok tt) after → is_clean (disk_in (kept_of after)) ≡ is_clean (disk_in (kept_of before))
+  commit_clean before after commits = (over.commits before (Ok tt) after commits).clean
 
   module _ (first : B) (from : F) (old : Option (List ℕ)) where
-    executed_counts : (why : Halt A E H) (result : Result (Unit {0}) (Stop PersistenceFault E H)) (last : B) (to : F) (new : Option (List ℕ))
-        → (ends : EndsAfterGroup backend framing limits why result first from old last to new)
-        → faults (disk_in (kept_of ends.executed)) ≡ faults (disk_in (kept_of first))
-    executed_counts why result last to new ends =
-        shares_counts (kept_of ends.begun) (kept_of ends.executed) (group_shares ends.begun ends.at why ends.executed to ends.text ends.gathers)
-        ∙ groups_count first from ends.earlier.groups ends.begun ends.at ends.earlier.commits
-
-    committed_counts : (why : Halt A E H) (result : Result (Unit {0}) (Stop PersistenceFault E H)) (last : B) (to : F) (new : Option (List ℕ))
-        → (ends : EndsAfterGroup backend framing limits why result first from old last to new) → backend.commits ends.executed (Ok tt) last
-        → faults (disk_in (kept_of last)) ≡ faults (disk_in (kept_of first))
-    committed_counts why result last to new ends commits = commit_counts ends.executed last commits ∙ executed_counts why result last to new ends
-
     run_counts : (result : Result (Unit {0}) (Stop PersistenceFault E H)) (last : B) (to : F) (new : Option (List ℕ)) → RunsAll backend framing limits first from old result last to new
         → ReportsFaultOf result (faults (disk_in (kept_of first))) (faults (disk_in (kept_of last)))
-    run_counts (Ok done) last to new runs = committed_counts halt.End (Ok tt) last to new runs runs.flushes.0
     run_counts (Err (stop.Commit why)) last to new runs =
-        subst (λ (n : ℕ). ReportsDiskFault why n (faults (disk_in (kept_of last)))) (executed_counts runs.why (Err (stop.Commit why)) last to new runs.ends)
-        (over.commits runs.ends.executed (Err why) last runs.ends.flushes.0).counts
-    run_counts (Err (stop.Write error)) last to new runs = committed_counts runs.why (Err (stop.Write error)) last to new runs.ends runs.ends.flushes.0
-    run_counts (Err (stop.Read why)) last to new runs = committed_counts (halt.Read why) (Ok tt) last to new runs runs.flushes.0
-    run_counts (Err (stop.Execute why)) last to new runs = committed_counts (halt.Execute why) (Ok tt) last to new runs runs.flushes.0
-    run_counts (Err stop.Internal) last to new (done, counted) = groups_count first from done.groups last to done.commits
+        let commits = over.commits runs.ends.executed (Err why) last runs.ends.flushes.0 in (
+          commits.fault,
+          subst (λ (n : ℕ). ReportsDiskFault why n (faults (disk_in (kept_of last))))
+              (executed_stays faults commit_counts first from old runs.why (Err (stop.Commit why)) last to new runs.ends) commits.counts,
+        )
+    run_counts (Ok done) last to new runs = run_stays faults commit_counts first from old (Ok done) last to new runs
+    run_counts (Err (stop.Write error)) last to new runs = run_stays faults commit_counts first from old (Err (stop.Write error)) last to new runs
+    run_counts (Err (stop.Read why)) last to new runs = run_stays faults commit_counts first from old (Err (stop.Read why)) last to new runs
+    run_counts (Err (stop.Execute why)) last to new runs = run_stays faults commit_counts first from old (Err (stop.Execute why)) last to new runs
+    run_counts (Err stop.Internal) last to new runs = run_stays faults commit_counts first from old (Err stop.Internal) last to new runs
+
+    run_clean : (result : Result (Unit {0}) (Stop PersistenceFault E H)) (last : B) (to : F) (new : Option (List ℕ)) → RunsAll backend framing limits first from old result last to new
+        → is_clean (disk_in (kept_of last)) ≡ is_clean (disk_in (kept_of first))
+    run_clean (Err (stop.Commit why)) last to new runs =
+        (over.commits runs.ends.executed (Err why) last runs.ends.flushes.0).clean
+        ∙ executed_stays is_clean commit_clean first from old runs.why (Err (stop.Commit why)) last to new runs.ends
+    run_clean (Ok done) last to new runs = run_stays is_clean commit_clean first from old (Ok done) last to new runs
+    run_clean (Err (stop.Write error)) last to new runs = run_stays is_clean commit_clean first from old (Err (stop.Write error)) last to new runs
+    run_clean (Err (stop.Read why)) last to new runs = run_stays is_clean commit_clean first from old (Err (stop.Read why)) last to new runs
+    run_clean (Err (stop.Execute why)) last to new runs = run_stays is_clean commit_clean first from old (Err (stop.Execute why)) last to new runs
+    run_clean (Err stop.Internal) last to new runs = run_stays is_clean commit_clean first from old (Err stop.Internal) last to new runs
 
     -- ---- a conversation by which no commit is possible
 
@@ -204,10 +249,12 @@ module _ {D : Type 0} (seen : D → List ℕ) (may_leave : D → List ℕ → Ty
         (stops : StopsAfterGroup backend framing limits (Err (stop.Commit why)) first from old last to new)
         → LeavesAnswered seen may_leave faults is_clean backend kept_of framing limits first from old why last to new stops
     leaves_answered why last to new stops stored durable =
-        (over.commits stops.ends.executed (Err why) last stops.ends.flushes.0).crash _
-        (share_persists seen may_leave (kept_of stops.ends.begun) (kept_of stops.ends.executed)
-        (group_shares stops.ends.begun stops.ends.at stops.why stops.ends.executed to stops.ends.text stops.ends.gathers) _
-        (groups_persist first from stops.ends.earlier.groups stops.ends.begun stops.ends.at stops.ends.earlier.commits stored durable))
+        let commits = over.commits stops.ends.executed (Err why) last stops.ends.flushes.0 in
+        let calls = durable_after stops.ends.earlier.groups stored (accepted_by (kept_of stops.ends.begun)) in
+        let persists = share_persists seen may_leave (kept_of stops.ends.begun) (kept_of stops.ends.executed)
+        (group_shares stops.ends.begun stops.ends.at stops.why stops.ends.executed to stops.ends.text stops.ends.gathers) calls
+        (groups_persist first from stops.ends.earlier.groups stops.ends.begun stops.ends.at stops.ends.earlier.commits stored durable) in
+        (commits.crash calls persists, leaves_durable seen may_leave why calls (kept_of stops.ends.executed) (kept_of last) persists.1 commits.leaves)
 
 pub promises_kept : {D B F Q A E H : Type 0} (seen : D → List ℕ) (may_leave : D → List ℕ → Type 0) (faults : D → ℕ) (is_clean : D → Bool)
     (backend : backends.Ghosts B Q A E PersistenceFault) (framing : framings.Ghosts F Q A H) (kept_of : B → DurableRepository D)
@@ -216,6 +263,7 @@ promises_kept seen may_leave faults is_clean backend framing kept_of = record {
   all = λ over limits first from old result last to new runs. record {
     stopped = λ stopped. run_stopped seen may_leave faults is_clean backend framing kept_of over limits first from old stopped result last to new runs;
     counts = run_counts seen may_leave faults is_clean backend framing kept_of over limits first from old result last to new runs;
+    clean = run_clean seen may_leave faults is_clean backend framing kept_of over limits first from old result last to new runs;
   };
   failed = λ over limits first from old why last to new stops.
       leaves_answered seen may_leave faults is_clean backend framing kept_of over limits first from old why last to new stops;

@@ -27,6 +27,11 @@ module _ {D : Type 0} (seen : D → List ℕ) (may_leave : D → List ℕ → Ty
   abbrev pub MayLeave : StoreContents → DurableRepository D → Type 0
   MayLeave stored kept = (c : List ℕ) → may_leave (disk_in kept) c → IsStoreOf stored c ⊎ IsStoreOf (accepted_by kept) c
 
+  -- after a failed commit the same calls are durable or, if the disk has failed, no further commit is possible
+  abbrev pub LeavesDurable : PersistenceFault → StoreContents → DurableRepository D → Type 0
+  LeavesDurable (fault.Store (store_fault.Disk error)) stored new = may_commit new ≡ false
+  LeavesDurable other stored new = PersistsCalls seen may_leave stored new
+
   module _ (faults : D → ℕ) (is_clean : D → Bool) where
     -- a commit. Ok: all accepted calls are durable. An error: the repository is unchanged or, if the disk has failed,
     -- commits no more. In any case a crash leaves the calls that were durable before, or all. If no commit was possible,
