@@ -1,6 +1,7 @@
 -- Frames of requests and of answers, piece by piece.
-use Rattle.camp_talk.proofs.Words.{◌==◌, ◌≡◌, ◌≢◌, ◌<◌, ◌≤◌, inl, inr, ℕ, Bool, true, false, cond, List, [], ◌∷◌, ◌++◌, length, take, drop, Option, None, Some, refl, sym, ap, subst, ◌∙◌, append_assoc, arith, true≢false, take_all, length-append, length-take, All, All-cons, All-drop, All-head, All-nil, list_all, drop-append_seam, and_parts, Consumes, Consumes-trans, append-nil, ◌-◌, lines_of, first_of, IsLine, IsReading, StopsInLine, Takes}
+use Rattle.camp_talk.proofs.Words.{◌==◌, ◌≡◌, ◌≢◌, ◌<◌, ◌≤◌, inl, inr, ℕ, Bool, true, false, cond, List, [], ◌∷◌, ◌++◌, length, take, drop, Option, None, Some, refl, sym, ap, subst, ◌∙◌, append_assoc, arith, true≢false, take_all, length-append, length-take, All, All-cons, All-drop, All-head, All-nil, Appends, Appends-trans, AppendsSome, Err, Ok, Result, list_all, drop-append_seam, and_parts, Consumes, Consumes-trans, append-nil, ◌-◌, lines_of, first_of, IsLine, IsReading, StopsInLine, Takes}
 use Rattle.std.proofs.Common.{unwrap_or, ◌&&◌}
+use Rattle.std.specs.Prelude.{MatchResult}
 use Rattle.std.proofs.lemmas.Bool.{eqb-false}
 use Rattle.std.proofs.lemmas.Bool.Decides.{nat_tests}
 use Rattle.std.proofs.lemmas.List.{nil_from_length}
@@ -326,3 +327,36 @@ begins_frame bytes feed count at within counted fits = record {
 
     fed : take (feed + 1) bytes ≡ take feed bytes ++ 10 ∷ []
     fed = subst (λ (n : ℕ). take (n + 1) bytes ≡ take n bytes ++ 10 ∷ []) (sym at) (line_fed bytes (subst (λ (n : ℕ). n < length bytes) at within))
+
+-- ---- writing
+
+module _ (a b : Option (List ℕ)) (text rest : List ℕ) where
+  fails_first : AppendsSome a b text → AppendsSome a b (text ++ rest)
+  fails_first (done, left, is, appends) =
+      (done, left ++ rest, ap (λ (bytes : List ℕ). bytes ++ rest) is ∙ append_assoc done left rest, appends)
+
+module _ (a b c : Option (List ℕ)) (front text : List ℕ) where
+  fails_behind : Appends a b front → AppendsSome b c text → AppendsSome a c (front ++ text)
+  fails_behind first (done, left, is, appends) = (
+    front ++ done,
+    left,
+    ap (λ (bytes : List ℕ). front ++ bytes) is ∙ sym (append_assoc front done left),
+    Appends-trans a b c front done first appends,
+  )
+
+-- the number of bytes, the line feed and the bytes of a frame are written, as far as the writer does
+module _ (digits answer text : List ℕ) (is : digits ++ 10 ∷ answer ≡ text) (a b : Option (List ℕ)) where
+  pub digits_fail : AppendsSome a b digits → AppendsSome a b text
+  digits_fail some = subst (AppendsSome a b) is (fails_first a b digits (10 ∷ answer) some)
+
+  pub line_end_fails : (c : Option (List ℕ)) → Appends a b digits → AppendsSome b c (10 ∷ []) → AppendsSome a c text
+  line_end_fails c first some =
+      subst (AppendsSome a c) is (fails_behind a b c digits (10 ∷ answer) first (fails_first b c (10 ∷ []) answer some))
+
+  pub frame_written : {E : Type 0} (c d : Option (List ℕ)) (result : Result (Unit {0}) E) → Appends a b digits → Appends b c (10 ∷ [])
+      → MatchResult result (λ done. Appends c d answer) (λ why. AppendsSome c d answer)
+      → MatchResult result (λ done. Appends a d text) (λ why. AppendsSome a d text)
+  frame_written c d (Ok done) first second third =
+      subst (Appends a d) is (Appends-trans a b d digits (10 ∷ answer) first (Appends-trans b c d (10 ∷ []) answer second third))
+  frame_written c d (Err why) first second some =
+      subst (AppendsSome a d) is (fails_behind a b d digits (10 ∷ answer) first (fails_behind b c d (10 ∷ []) answer second some))
