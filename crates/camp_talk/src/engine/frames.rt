@@ -7,12 +7,11 @@ ghost use Rattle.camp_talk.specs.Frames.{IsFrame, ReadsNoFrame, framed};
 ghost use Rattle.camp_talk.specs.Inside.Framing.{ReadsNothing};
 ghost use Rattle.camp_talk.specs.Talks.{AppendsSome};
 
-use crate::FrameFault;
 use crate::engine::Framing;
 use crate::lines::line_len;
 use crate::serving::{read_request, request_len};
+use crate::{FrameFault, write_answer};
 use itoa::Buffer;
-use crate::write_answer;
 use std::alloc::Global;
 use std::io::{self, BufReader, Read, Write};
 

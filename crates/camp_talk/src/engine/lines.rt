@@ -1,17 +1,16 @@
 //! Commands in lines: each is a line, with the lines of its body or group.
-ghost use Rattle.std.specs.Prelude.{◌≡◌, ◌++◌, None, false, true, List, IfErr, IfOk, OnErr, OnOk, ℕ};
+ghost use Rattle.std.specs.Prelude.{◌≡◌, None, false, true, List, IfErr, IfOk, ℕ};
 ghost use Rattle.std.specs.Io.Buffered.{reader_remaining};
 ghost use Rattle.std.specs.Io.KnownBytes.{Consumes};
 ghost use Rattle.camp_talk.specs.Engine.Commands.{BreaksBefore, ReadsNextCommand};
 ghost use Rattle.camp_talk.specs.Inside.Responses.{written};
 
-use crate::TalkFault;
 use crate::engine::Framing;
 use crate::prompts::Prompting;
 use crate::readiness::begin_with_command;
 use crate::readings::{Command, read_command};
 use crate::responses::Response;
-use crate::write_answer;
+use crate::{TalkFault, write_answer};
 use std::alloc::Global;
 use std::io::{self, BufRead, BufReader, Read, Write};
 
