@@ -3,7 +3,6 @@ use Rattle.std.proofs.Common.{◌≡◌, ℕ, ◌+◌, ◌-◌, ◌^◌, List, [
 use Rattle.std.proofs.KnownBytes.{Appends-nil, Appends-trans, Consumes-nil, Consumes-trans}
 use Rattle.std.proofs.lemmas.Grind.{flat_map-append}
 use Rattle.std.specs.Io.KnownBytes.{Appends, Consumes}
-use Rattle.std_io.specs.declared.io.error.Error.{Error}
 use Rattle.camp_talk.specs.Engine.Groups.{ExecutesInOrder, Halts, HasSteps, RunsGroup, Step, responses}
 use Rattle.camp_talk.specs.Engine.Runs.{Commits, EndsAfterGroup, FlushesGroup, HasRun, ResponsesAreDurable, RunsAll, StopsAfterGroup, UnlessCommitFails, durable_after}
 use Rattle.camp_talk.specs.Talks.{AppendsSome}
@@ -112,8 +111,8 @@ module _ {B Q A C E H : Type 0} (backend : backends.Ghosts B Q A E C) (executed 
   pub flushes_more : Appends held new more → FlushesGroup {H = H} backend executed (text ++ more) old (Ok done) last new
   flushes_more writes = (flushes.0, Appends-trans old held new text more flushes.1 writes)
 
-  pub flushes_some : (error : Error) → AppendsSome held new more → FlushesGroup {H = H} backend executed (text ++ more) old (Err (stop.Write error)) last new
-  flushes_some error (some, rest, is, writes) = (
+  pub flushes_some : AppendsSome held new more → backend.commits executed (Ok tt) last × AppendsSome old new (text ++ more)
+  flushes_some (some, rest, is, writes) = (
     flushes.0,
     text ++ some,
     rest,
