@@ -10,8 +10,8 @@ returns-in-Ok-write_response g c =
       c.in-Ok-write_response.ensures.writes,
     )
 
-pub returns : goal.returns
-returns g c =
+pub returns-in-Err-write_response : goal.returns-in-Err-write_response
+returns-in-Err-write_response g c =
     let read = rw c.in-Ok-Some.field-0-is at c.in-Ok-Some.ensures.reads in
     let (bytes, reads, consumes) = read in
     let (done, rest, parts, grows) = c.in-Err-write_response.ensures.writes in (
