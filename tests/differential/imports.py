@@ -82,7 +82,8 @@ class Import:
             return self.report.fail(f"{self.name}: status {done.returncode}, {done.stderr[-300:]!r}")
         self.compare("whole")
         self.bring_again("whole")
-        self.send_back("whole")
+        if b"--export-all" in programs.run([self.program, "--help"]).stdout:
+            self.send_back("whole")
         self.bring_new()
         if has_cuts:
             chance = random.Random(self.name)

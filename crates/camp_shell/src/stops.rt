@@ -1,5 +1,8 @@
 //! Why the program ends before its input does, and how it reports that.
+use bstr::BStr;
+use camp_base::Name;
 use camp_git::Unexported;
+use camp_importer::{ImportFault, Reason};
 use camp_kept_talk::PersistenceFault;
 use camp_options::{WordsFault, report_fault, report_unwritten};
 use camp_talk::{FrameFault, LoadFault, TalkFault};
@@ -27,6 +30,12 @@ pub(crate) enum Stop<'a> {
     Store(&'a str, PersistenceFault),
     /// Another process uses the store.
     InUse(&'a str),
+    /// A commit of a stream was not brought in.
+    Commit(&'a str, ImportFault),
+    /// The branches of a stream's tips were not made.
+    Tips(&'a str, Reason),
+    /// Why the program ends was reported already; its exit status.
+    Reported(u8),
     /// The path of the store is a folder, a device or a pipe; or a file with several hard links, which only a
     /// check accepts.
     NotPlain(&'a str),
@@ -68,6 +77,9 @@ impl Stop<'_> {
                     3,
                 )
             }
+            Stop::Commit(source, fault) => report_reason(rt, source, &fault.why, Some(&fault.commit)),
+            Stop::Tips(source, why) => report_reason(rt, source, why, None),
+            Stop::Reported(status) => *status,
             Stop::Talk(fault) | Stop::Frame(FrameFault::Talk(fault)) => report_talk_fault(
                 rt, fault,
             ),
@@ -94,6 +106,28 @@ fn report_talk_fault<R: Print + Eprint>(rt: &R, fault: &TalkFault) -> u8 {
         TalkFault::Memory | TalkFault::Internal => {
             report_fault(rt, PROGRAM, fault, fault.status())
         }
+    }
+}
+
+// Reports why a commit of a stream, or the branches of its tips, were not brought in, and returns the exit status.
+fn report_reason<R: Print + Eprint>(
+    rt: &R,
+    source: &str,
+    why: &Reason,
+    commit: Option<&Name>,
+) -> u8 {
+    let status = match why {
+        Reason::Memory => 3,
+        _ => 1,
+    };
+    match commit {
+        Some(id) => report_fault(
+            rt,
+            PROGRAM,
+            &format_args!("{source}: commit {}: {why}", BStr::new(id.bytes())),
+            status,
+        ),
+        None => report_fault(rt, PROGRAM, &format_args!("{source}: branches: {why}"), status),
     }
 }
 

@@ -1,4 +1,5 @@
 //! The words of the command line.
+use crate::imports::STANDARD_INPUT;
 use camp_options::VERSION;
 use clap::{Arg, ArgAction, Command, Error};
 use std::alloc::{AllocError, Global};
@@ -11,6 +12,10 @@ pub(crate) struct Wish<'a> {
     pub(crate) files: Vec<&'a str>,
     /// The branch that is written for git instead of holding a conversation.
     pub(crate) export: Option<&'a str>,
+    /// The file with a stream of git that is brought into the store, or `-` for standard input.
+    pub(crate) import: Option<&'a str>,
+    /// Whether progress is shown also where standard error is no terminal.
+    pub(crate) progress: bool,
     /// The file in which the repository is persisted.
     pub(crate) store: Option<&'a str>,
     /// The text given to `--limits`, if any.
@@ -115,6 +120,8 @@ pub(crate) fn wish_of<'a, S: AsStr>(alloc: Global, words: &'a [S]) -> Result<Wis
     Ok(Wish {
         files,
         export,
+        import: matches.get_str("import"),
+        progress: matches.get_flag("progress"),
         store: matches.get_str("store"),
         limits: matches.get_str("limits"),
         checked: matches.get_str("check-store"),
@@ -136,6 +143,8 @@ fn options<'a>(alloc: Global) -> Result<Vec<Arg<'a>>, AllocError> {
     let mut options = Vec::new(alloc);
     options.push(load(alloc))?;
     options.push(export(alloc))?;
+    options.push(import(alloc)?)?;
+    options.push(progress(alloc)?)?;
     options.push(frames(alloc)?)?;
     options.push(prompt(alloc)?)?;
     options.push(store(alloc))?;
@@ -158,6 +167,26 @@ fn export<'a>(alloc: Global) -> Arg<'a> {
         .long("export")
         .value_name("BRANCH")
         .help("Write this branch as a stream for git fast-import, and end")
+}
+
+fn import<'a>(alloc: Global) -> Result<Arg<'a>, AllocError> {
+    Arg::new(alloc, "import")
+        .long("import")
+        .num_args(0..=1)
+        .default_missing_value(STANDARD_INPUT)
+        .value_name("FILE")
+        .help("Bring a stream of git fast-export, from this file or standard input, into the store, and end")
+        .requires_arg("store")?
+        .conflicts_with("load")?
+        .conflicts_with("export")
+}
+
+fn progress<'a>(alloc: Global) -> Result<Arg<'a>, AllocError> {
+    Arg::new(alloc, "progress")
+        .long("progress")
+        .action(ArgAction::SetTrue)
+        .help("Report each second how many commits were brought in, also where standard error is no terminal")
+        .requires_arg("import")
 }
 
 fn frames<'a>(alloc: Global) -> Result<Arg<'a>, AllocError> {

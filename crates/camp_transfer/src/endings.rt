@@ -1,0 +1,96 @@
+//! The branches of the tips of a stream.
+
+ghost use Rattle.camp_object.specs.Books.{IsEarlier};
+
+use crate::executing::execute;
+use crate::planning::{Planner, has_all};
+use crate::preparing::branch_at;
+use crate::restoring::restore_branch;
+use camp_base::Name;
+use camp_import::Tip;
+use camp_importer::{Moments, Reason};
+use camp_repo::{Book, Call, State};
+use std::alloc::{AllocError, Global};
+
+/// Makes the branch of each tip, or brings it forward to the commit of the tip. Returns how many branches stay where they
+/// are, since they have a patch that the commit's branch does not have.
+pub(crate) fn make_tips(
+    alloc: Global,
+    book: &mut Book<State>,
+    moments: &Moments,
+    planner: &mut Planner,
+    tips: &[Tip],
+) -> Result<usize, Reason>
+    ensures { IsEarlier book.old book.new }
+{
+    let mut left = 0;
+    'tips: for tip in tips {
+        if !make_tip(alloc, book, moments, planner, *tip)? {
+            left += 1;
+        }
+    }
+    Ok(left)
+}
+
+/// Makes the branch of a tip, or brings it forward. False if it stays where it is.
+fn make_tip(
+    alloc: Global,
+    book: &mut Book<State>,
+    moments: &Moments,
+    planner: &mut Planner,
+    tip: Tip,
+) -> Result<bool, Reason>
+    ensures { IsEarlier book.old book.new }
+{
+    match book.state().branch(&tip.branch) {
+        Some(found) => {
+            if found.has_patch(&tip.id) {
+                return Ok(true);
+            }
+        }
+        None => {
+            make_branch(alloc, book, moments, planner, tip)?;
+            return Ok(true);
+        }
+    }
+    let end = branch_at(alloc, book, moments, planner, tip.id, tip.branch)?;
+    if !is_within(book.state(), tip.branch, end)? {
+        return Ok(false);
+    }
+    let pull = Call::Pull {
+        from: end,
+        to: tip.branch,
+        names: None,
+    };
+    execute(book, &pull)?;
+    Ok(true)
+}
+
+fn make_branch(
+    alloc: Global,
+    book: &mut Book<State>,
+    moments: &Moments,
+    planner: &Planner,
+    tip: Tip,
+) -> Result<(), Reason>
+    ensures { IsEarlier book.old book.new }
+{
+    match planner.end_of(&tip.id) {
+        Some(from) => {
+            let copy = Call::Branch {
+                new: tip.branch,
+                from,
+            };
+            execute(book, &copy)
+        }
+        None => restore_branch(alloc, book, moments, Some(tip.id), tip.branch),
+    }
+}
+
+/// True if a branch has all patches of another one.
+fn is_within(state: &State, inner: Name, outer: Name) -> Result<bool, AllocError> {
+    match (state.branch(&inner), state.branch(&outer)) {
+        (Some(one), Some(other)) => has_all(other, one),
+        _ => Ok(false),
+    }
+}

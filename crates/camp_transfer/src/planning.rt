@@ -1,0 +1,176 @@
+//! Where the commits of a stream go.
+
+use crate::lines::{find_lines, indices_of, last_of, line_at};
+use camp_base::Name;
+use camp_import::{Commit, Tip};
+use camp_importer::Moments;
+use camp_repo::{Book, Branch, State};
+use std::alloc::{AllocError, Global};
+use std::collections::BTreeMap;
+
+/// What is planned for the commits of a stream. A line of commits, each the first parent of the next, goes on one branch.
+#[derive(Drop)]
+pub(crate) struct Planner {
+    /// The line of each commit, by its index.
+    lines: Vec<Option<Name>>,
+    /// The branches of those lines that do not go on the branch of their own name.
+    renamed: BTreeMap<Name, Name>,
+    /// The branch that ends with a commit, by the id of the commit.
+    ends: BTreeMap<Name, Name>,
+    /// The index of the last commit that has this parent; more than any index for the commit of a tip.
+    uses: BTreeMap<Name, usize>,
+    /// The branch of the tip at a commit.
+    tips: BTreeMap<Name, Name>,
+}
+
+impl Planner {
+    /// Finds the lines of commits, and the branches that end with a commit.
+    pub(crate) fn new(
+        alloc: Global,
+        book: &Book<State>,
+        moments: &Moments,
+        commits: &[Commit],
+        tips: &[Tip],
+    ) -> Result<Planner, AllocError> {
+        let indices = indices_of(alloc, commits)?;
+        let mut planner = Planner {
+            lines: find_lines(alloc, commits, &indices, tips)?,
+            renamed: BTreeMap::new(alloc),
+            ends: BTreeMap::new(alloc),
+            uses: BTreeMap::new(alloc),
+            tips: BTreeMap::new(alloc),
+        };
+        planner.add_ends(book.state(), moments)?;
+        planner.add_uses(commits)?;
+        planner.add_tips(tips)?;
+        Ok(planner)
+    }
+
+    fn add_ends(&mut self, state: &State, moments: &Moments) -> Result<(), AllocError> {
+        for name in state.names() {
+            if let Some(branch) = state.branch(name) {
+                if let Some(id) = commit_at_end(branch, moments) {
+                    self.ends.insert(id, *name)?;
+                }
+            }
+        }
+        Ok(())
+    }
+
+    fn add_uses(&mut self, commits: &[Commit]) -> Result<(), AllocError> {
+        for index in 0..commits.len() {
+            for parent in &commits[index].parents {
+                self.uses.insert(*parent, index)?;
+            }
+        }
+        Ok(())
+    }
+
+    fn add_tips(&mut self, tips: &[Tip]) -> Result<(), AllocError> {
+        for tip in tips {
+            self.uses.insert(tip.id, usize::MAX)?;
+            self.tips.insert(tip.id, tip.branch)?;
+        }
+        Ok(())
+    }
+
+    /// The branch that ends with a commit, if there is one.
+    pub(crate) fn end_of(&self, id: &Name) -> Option<Name> {
+        self.ends.get(id).copied()
+    }
+
+    /// Notes that a branch ends with a commit.
+    pub(crate) fn set_end(&mut self, id: Name, branch: Name) -> Result<(), AllocError> {
+        self.ends.insert(id, branch)?;
+        Ok(())
+    }
+
+    /// True if a commit after the one at `index` has this parent, or a tip is at it.
+    pub(crate) fn is_needed_after(&self, index: usize, parent: &Name) -> bool {
+        match self.uses.get(parent) {
+            Some(last) => *last > index,
+            None => false,
+        }
+    }
+
+    /// The name for a copy of the branch that ends with a commit: that of a tip at it, unless there is such a branch
+    /// already; else the id of the commit.
+    pub(crate) fn spare_name(&self, state: &State, id: Name) -> Name {
+        match self.tips.get(&id) {
+            Some(tip) if state.branch(tip).is_none() => *tip,
+            _ => id,
+        }
+    }
+
+    /// Finds the branch on which a commit is recorded, after a branch that ends with its first parent. It is that of the
+    /// commit's line, if there is none of this name yet, if it is `first`, or if `first` has all of its patches; else
+    /// one named by the last commit of the line.
+    pub(crate) fn branch_for(
+        &mut self,
+        state: &State,
+        commits: &[Commit],
+        index: usize,
+        first: Option<Name>,
+    ) -> Result<Name, AllocError> {
+        let id = match commits.get(index) {
+            Some(commit) => commit.id,
+            None => return Err(AllocError),
+        };
+        let line = line_at(&self.lines, index).unwrap_or(id);
+        let own = match self.renamed.get(&line) {
+            Some(name) => *name,
+            None => line,
+        };
+        if can_go_on(state, own, first)? {
+            return Ok(own);
+        }
+        let last = last_of(&self.lines, commits, line).unwrap_or(id);
+        let other = if can_go_on(state, last, first)? {
+            last
+        } else {
+            id
+        };
+        self.renamed.insert(line, other)?;
+        Ok(other)
+    }
+}
+
+/// The commit with which a branch ends, if it has just as many catches as right after that commit.
+fn commit_at_end(branch: &Branch, moments: &Moments) -> Option<Name> {
+    let catches = branch.catches();
+    let last = catches.get(catches.len().saturating_sub(1))?;
+    let id = *last.name();
+    let then = moments.find(&id)?;
+    if then.catches().len() == catches.len() {
+        return Some(id);
+    }
+    None
+}
+
+/// True if a line can go on a branch after `first`, or without it after no patch: there is no such branch, or it has no
+/// patch that would not be before the next one.
+fn can_go_on(state: &State, branch: Name, first: Option<Name>) -> Result<bool, AllocError> {
+    let Some(found) = state.branch(&branch) else {
+        return Ok(true);
+    };
+    match first {
+        Some(first) => is_within(state, found, branch, first),
+        None => Ok(found.catches().is_empty()),
+    }
+}
+
+fn is_within(state: &State, found: &Branch, branch: Name, first: Name) -> Result<bool, AllocError> {
+    if branch == first {
+        return Ok(true);
+    }
+    match state.branch(&first) {
+        Some(other) => Ok(has_all(other, found)?),
+        None => Ok(false),
+    }
+}
+
+/// True if a branch has all patches of another one.
+pub(crate) fn has_all(branch: &Branch, other: &Branch) -> Result<bool, AllocError> {
+    let names = other.names()?;
+    Ok(branch.first_lacked(&names).is_none())
+}
