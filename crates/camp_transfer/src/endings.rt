@@ -2,15 +2,18 @@
 
 ghost use Rattle.camp_object.specs.Books.{IsEarlier};
 
-use crate::executing::execute;
+use crate::executing::{execute, execute_pull};
 use crate::planning::{Planner, has_all};
-use crate::preparing::branch_at;
+use crate::preparing::{branch_at, leave_branch};
 use crate::restoring::restore_branch;
 use camp_base::Name;
 use camp_import::Tip;
 use camp_importer::{Moments, Reason};
 use camp_repo::{Book, Call, State};
 use std::alloc::{AllocError, Global};
+
+/// An index after those of all commits.
+const AFTER_ALL: usize = usize::MAX - 1;
 
 /// Makes the branch of each tip, or brings it forward to the commit of the tip. Returns how many branches stay where they
 /// are, since they have a patch that the commit's branch does not have.
@@ -23,10 +26,10 @@ pub(crate) fn make_tips(
 ) -> Result<usize, Reason>
     ensures { IsEarlier book.old book.new }
 {
-    let mut left = 0;
+    let mut left: usize = 0;
     'tips: for tip in tips {
         if !make_tip(alloc, book, moments, planner, *tip)? {
-            left += 1;
+            left = left.saturating_add(1);
         }
     }
     Ok(left)
@@ -42,27 +45,38 @@ fn make_tip(
 ) -> Result<bool, Reason>
     ensures { IsEarlier book.old book.new }
 {
-    match book.state().branch(&tip.branch) {
-        Some(found) => {
-            if found.has_patch(&tip.id) {
-                return Ok(true);
-            }
-        }
+    match has_commit(book.state(), tip) {
+        Some(true) => Ok(true),
+        Some(false) => bring_forward(alloc, book, moments, planner, tip),
         None => {
             make_branch(alloc, book, moments, planner, tip)?;
-            return Ok(true);
+            Ok(true)
         }
     }
+}
+
+/// Whether the branch of a tip has the commit of the tip; `None` if there is no such branch.
+fn has_commit(state: &State, tip: Tip) -> Option<bool> {
+    let branch = state.branch(&tip.branch)?;
+    Some(branch.has_patch(&tip.id))
+}
+
+/// Brings the branch of a tip to the commit of the tip, if the branch that ends with this commit has all its patches.
+fn bring_forward(
+    alloc: Global,
+    book: &mut Book<State>,
+    moments: &Moments,
+    planner: &mut Planner,
+    tip: Tip,
+) -> Result<bool, Reason>
+    ensures { IsEarlier book.old book.new }
+{
     let end = branch_at(alloc, book, moments, planner, tip.id, tip.branch)?;
     if !is_within(book.state(), tip.branch, end)? {
         return Ok(false);
     }
-    let pull = Call::Pull {
-        from: end,
-        to: tip.branch,
-        names: None,
-    };
-    execute(book, &pull)?;
+    leave_branch(book, planner, AFTER_ALL, &[], tip.branch)?;
+    execute_pull(book, end, tip.branch)?;
     Ok(true)
 }
 

@@ -1,16 +1,19 @@
-//! One call of a book.
+//! Calls of a book.
 
 ghost use Rattle.camp_importer.specs.Calling.{AnswersCall};
+ghost use Rattle.camp_object.specs.Books.{IsEarlier};
 
+use camp_base::Name;
 use camp_importer::Reason;
-use camp_repo::{Book, Call, Reply, State};
+use camp_repo::{Book, Call, Refusal, Reply, State};
 
 /// The seat of all calls of an import.
 pub(crate) const SEAT: u32 = 0;
 
 /// Executes a call that writes.
 pub(crate) fn execute(book: &mut Book<State>, call: &Call) -> Result<(), Reason>
-    ensures { AnswersCall call.now book.old result book.new }
+    ensures exact { AnswersCall call.now book.old result book.new }
+    ensures grows { IsEarlier book.old book.new }
 {
     // Calling `count` tells the prover, by its clauses, that the state is lawful.
     let _count = book.state().count();
@@ -19,5 +22,21 @@ pub(crate) fn execute(book: &mut Book<State>, call: &Call) -> Result<(), Reason>
         Ok(Reply::Refused(refusal)) => Err(Reason::Refused(refusal)),
         Ok(_) => Err(Reason::Memory),
         Err(_) => Err(Reason::Memory),
+    }
+}
+
+/// Pulls all patches of a branch into another one, which may have them all.
+pub(crate) fn execute_pull(book: &mut Book<State>, from: Name, to: Name) -> Result<(), Reason>
+    ensures { IsEarlier book.old book.new }
+{
+    let pull = Call::Pull {
+        from,
+        to,
+        names: None,
+    };
+    match execute(book, &pull) {
+        Ok(()) => Ok(()),
+        Err(Reason::Refused(Refusal::NothingToDo)) => Ok(()),
+        Err(why) => Err(why),
     }
 }

@@ -50,9 +50,17 @@ impl Planner {
         for name in state.names() {
             if let Some(branch) = state.branch(name) {
                 if let Some(id) = commit_at_end(branch, moments) {
-                    self.ends.insert(id, *name)?;
+                    self.add_end(id, *name)?;
                 }
             }
+        }
+        Ok(())
+    }
+
+    /// Notes that a branch ends with a commit, unless there is another such branch, of the commit's own name.
+    fn add_end(&mut self, id: Name, branch: Name) -> Result<(), AllocError> {
+        if self.end_of(&id) != Some(id) {
+            self.ends.insert(id, branch)?;
         }
         Ok(())
     }
@@ -85,9 +93,43 @@ impl Planner {
         Ok(())
     }
 
-    /// True if a commit after the one at `index` has this parent, or a tip is at it.
-    pub(crate) fn is_needed_after(&self, index: usize, parent: &Name) -> bool {
-        match self.uses.get(parent) {
+    /// The name for a copy of a branch that goes on, if the commit at its end is needed later: after the commit at
+    /// `index`, or as a further one of these parents. From then on the copy ends with that commit.
+    pub(crate) fn spare_for(
+        &mut self,
+        state: &State,
+        index: usize,
+        parents: &[Name],
+        branch: Name,
+    ) -> Result<Option<Name>, AllocError> {
+        let Some(id) = self.commit_at(state, branch) else {
+            return Ok(None);
+        };
+        if !self.is_needed(index, parents, id) {
+            self.ends.remove(&id);
+            return Ok(None);
+        }
+        let spare = self.spare_name(state, id);
+        self.ends.insert(id, spare)?;
+        Ok(Some(spare))
+    }
+
+    /// The commit with which a branch ends, if no other branch is known to end with it.
+    fn commit_at(&self, state: &State, branch: Name) -> Option<Name> {
+        let catches = state.branch(&branch)?.catches();
+        let last = catches.get(catches.len().saturating_sub(1))?;
+        let id = *last.name();
+        if self.end_of(&id) == Some(branch) {
+            return Some(id);
+        }
+        None
+    }
+
+    fn is_needed(&self, index: usize, parents: &[Name], id: Name) -> bool {
+        if is_further(parents, id) {
+            return true;
+        }
+        match self.uses.get(&id) {
             Some(last) => *last > index,
             None => false,
         }
@@ -95,10 +137,10 @@ impl Planner {
 
     /// The name for a copy of the branch that ends with a commit: that of a tip at it, unless there is such a branch
     /// already; else the id of the commit.
-    pub(crate) fn spare_name(&self, state: &State, id: Name) -> Name {
+    fn spare_name(&self, state: &State, id: Name) -> Name {
         match self.tips.get(&id) {
-            Some(tip) if state.branch(tip).is_none() => *tip,
-            _ => id,
+            Some(tip) => free_name(state, *tip, id),
+            None => id,
         }
     }
 
@@ -132,6 +174,19 @@ impl Planner {
         };
         self.renamed.insert(line, other)?;
         Ok(other)
+    }
+}
+
+/// True if a commit is one of the parents, but not the first.
+fn is_further(parents: &[Name], id: Name) -> bool {
+    parents.iter().skip(1).any(|parent| *parent == id)
+}
+
+/// A name, unless there is a branch of this name; else another one.
+pub(crate) fn free_name(state: &State, name: Name, other: Name) -> Name {
+    match state.branch(&name) {
+        Some(_) => other,
+        None => name,
     }
 }
 

@@ -2,8 +2,8 @@
 
 ghost use Rattle.camp_object.specs.Books.{IsEarlier};
 
-use crate::executing::execute;
-use crate::planning::Planner;
+use crate::executing::{execute, execute_pull};
+use crate::planning::{Planner, free_name};
 use crate::restoring::restore_branch;
 use camp_base::Name;
 use camp_import::Commit;
@@ -25,66 +25,47 @@ pub(crate) fn prepare(
 {
     match commit.parents.first() {
         Some(parent) => {
-            prepare_after(
-                alloc, book, moments, planner, commits, index, commit, *parent,
-            )
+            let end = branch_at(alloc, book, moments, planner, *parent, commit.id)?;
+            let branch = planner.branch_for(book.state(), commits, index, Some(end))?;
+            leave_branch(book, planner, index, &commit.parents, branch)?;
+            let others = other_branches(alloc, book, moments, planner, commit)?;
+            let first = forward(book, end, branch)?;
+            planner.set_end(commit.id, branch)?;
+            Ok(place_at(alloc, branch, first, others))
         }
-        None => prepare_root(alloc, book, moments, planner, commits, index, commit),
+        None => {
+            let branch = planner.branch_for(book.state(), commits, index, None)?;
+            ensure_empty(alloc, book, moments, branch)?;
+            planner.set_end(commit.id, branch)?;
+            Ok(place_at(alloc, branch, branch, Vec::new(alloc)))
+        }
     }
 }
 
-/// Prepares for a commit without parents: its branch has no patch.
-fn prepare_root(
-    alloc: Global,
-    book: &mut Book<State>,
-    moments: &Moments,
-    planner: &mut Planner,
-    commits: &[Commit],
-    index: usize,
-    commit: &Commit,
-) -> Result<Place, Reason>
-    ensures { IsEarlier book.old book.new }
-{
-    let branch = planner.branch_for(book.state(), commits, index, None)?;
-    if book.state().branch(&branch).is_none() {
-        restore_branch(alloc, book, moments, None, branch)?;
-    }
-    planner.set_end(commit.id, branch)?;
-    Ok(Place {
-        branch,
-        first: branch,
-        others: Vec::new(alloc),
-        spares: Vec::new(alloc),
-        copies: Vec::new(alloc),
-    })
-}
-
-/// Prepares for a commit with a first parent.
-fn prepare_after(
-    alloc: Global,
-    book: &mut Book<State>,
-    moments: &Moments,
-    planner: &mut Planner,
-    commits: &[Commit],
-    index: usize,
-    commit: &Commit,
-    parent: Name,
-) -> Result<Place, Reason>
-    ensures { IsEarlier book.old book.new }
-{
-    let end = branch_at(alloc, book, moments, planner, parent, commit.id)?;
-    let others = other_branches(alloc, book, moments, planner, commit, end)?;
-    let branch = planner.branch_for(book.state(), commits, index, Some(end))?;
-    let first = forward(book, end, branch)?;
-    let spares = spares_of(alloc, book.state(), planner, index, parent, branch)?;
-    planner.set_end(commit.id, branch)?;
-    Ok(Place {
+/// A place without copies of branches.
+pub(crate) fn place_at(alloc: Global, branch: Name, first: Name, others: Vec<Name>) -> Place {
+    Place {
         branch,
         first,
         others,
-        spares,
+        spares: Vec::new(alloc),
         copies: Vec::new(alloc),
-    })
+    }
+}
+
+/// Makes a branch without patches, if there is no branch of this name.
+fn ensure_empty(
+    alloc: Global,
+    book: &mut Book<State>,
+    moments: &Moments,
+    branch: Name,
+) -> Result<(), Reason>
+    ensures { IsEarlier book.old book.new }
+{
+    match book.state().branch(&branch) {
+        Some(_) => Ok(()),
+        None => restore_branch(alloc, book, moments, None, branch),
+    }
 }
 
 /// Returns the branch that ends with a commit. If there is none, makes one, named by the id of the commit or, if there is
@@ -99,17 +80,38 @@ pub(crate) fn branch_at(
 ) -> Result<Name, Reason>
     ensures { IsEarlier book.old book.new }
 {
-    if let Some(end) = planner.end_of(&id) {
-        return Ok(end);
+    match planner.end_of(&id) {
+        Some(end) => Ok(end),
+        None => {
+            let branch = free_name(book.state(), id, other);
+            restore_branch(alloc, book, moments, Some(id), branch)?;
+            planner.set_end(id, branch)?;
+            Ok(branch)
+        }
     }
-    let branch = if book.state().branch(&id).is_none() {
-        id
-    } else {
-        other
-    };
-    restore_branch(alloc, book, moments, Some(id), branch)?;
-    planner.set_end(id, branch)?;
-    Ok(branch)
+}
+
+/// Copies a branch before it goes on, if the commit at its end is needed after the commit at `index`, or is one of the
+/// further ones of these parents.
+pub(crate) fn leave_branch(
+    book: &mut Book<State>,
+    planner: &mut Planner,
+    index: usize,
+    parents: &[Name],
+    branch: Name,
+) -> Result<(), Reason>
+    ensures { IsEarlier book.old book.new }
+{
+    match planner.spare_for(book.state(), index, parents, branch)? {
+        Some(spare) => {
+            let copy = Call::Branch {
+                new: spare,
+                from: branch,
+            };
+            execute(book, &copy)
+        }
+        None => Ok(()),
+    }
 }
 
 /// Returns the branches that end with the further parents of a commit.
@@ -119,14 +121,14 @@ fn other_branches(
     moments: &Moments,
     planner: &mut Planner,
     commit: &Commit,
-    first: Name,
 ) -> Result<Vec<Name>, Reason>
     ensures { IsEarlier book.old book.new }
 {
     let mut others = Vec::new(alloc);
-    'parents: for parent in commit.parents.iter().skip(1) {
-        let end = branch_at(alloc, book, moments, planner, *parent, commit.id)?;
-        if end != first {
+    'parents: for index in 1..commit.parents.len() {
+        let parent = commit.parents[index];
+        if parent != commit.parents[0] {
+            let end = branch_at(alloc, book, moments, planner, parent, commit.id)?;
             others.push(end)?;
         }
     }
@@ -135,36 +137,12 @@ fn other_branches(
 
 /// Brings a branch that is there to where another one ends, by a pull of all patches that it lacks. Returns the branch from
 /// which the commit's own goes on.
-pub(crate) fn forward(book: &mut Book<State>, end: Name, branch: Name) -> Result<Name, Reason>
+fn forward(book: &mut Book<State>, end: Name, branch: Name) -> Result<Name, Reason>
     ensures { IsEarlier book.old book.new }
 {
     if end == branch || book.state().branch(&branch).is_none() {
         return Ok(end);
     }
-    let pull = Call::Pull {
-        from: end,
-        to: branch,
-        names: None,
-    };
-    execute(book, &pull)?;
+    execute_pull(book, end, branch)?;
     Ok(branch)
-}
-
-/// The copies of the branch that ends with the first parent, before it goes on: one, if the parent is needed later and no
-/// other branch ends with it.
-fn spares_of(
-    alloc: Global,
-    state: &State,
-    planner: &mut Planner,
-    index: usize,
-    parent: Name,
-    branch: Name,
-) -> Result<Vec<Name>, Reason> {
-    let mut spares = Vec::new(alloc);
-    if planner.end_of(&parent) == Some(branch) && planner.is_needed_after(index, &parent) {
-        let spare = planner.spare_name(state, parent);
-        planner.set_end(parent, spare)?;
-        spares.push(spare)?;
-    }
-    Ok(spares)
 }

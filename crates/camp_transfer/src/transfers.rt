@@ -14,11 +14,10 @@ use crate::endings::make_tips;
 use crate::executing::SEAT;
 use crate::known::known_commits;
 use crate::planning::Planner;
-use crate::preparing::prepare;
+use crate::preparing::{place_at, prepare};
 use crate::reading::{StreamEnd, read_commits};
 use crate::tips::find_tips;
 use crate::{StreamStop, TransferFault};
-use camp_base::Name;
 use camp_commits::TreeCommit;
 use camp_import::{Commit, Tip};
 use camp_importer::{ImportFault, Imported, Moments, Place, Reason, find_moments, import_commit};
@@ -219,18 +218,8 @@ fn place_for(
     ensures { IsEarlier book.old book.new }
 {
     match moments.find(&commit.id) {
-        Some(_) => Ok(no_place(alloc, commit.id)),
+        Some(_) => Ok(place_at(alloc, commit.id, commit.id, Vec::new(alloc))),
         None => prepare(alloc, book, moments, planner, commits, index, commit),
-    }
-}
-
-fn no_place(alloc: Global, id: Name) -> Place {
-    Place {
-        branch: id,
-        first: id,
-        others: Vec::new(alloc),
-        spares: Vec::new(alloc),
-        copies: Vec::new(alloc),
     }
 }
 
