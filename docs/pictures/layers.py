@@ -17,7 +17,7 @@ GROUPS = [
     ("patches", "#ddf4ff", "#0969da", "share base prim seq ctx catch branch notation"),
     ("repository", "#dafbe1", "#1a7f37", "call repo questions why"),
     ("texts", "#fbefff", "#8250df", "script git diff coding stream import commits talk options"),
-    ("storage", "#ffebe9", "#cf222e", "store kept kept_talk"),
+    ("storage", "#ffebe9", "#cf222e", "store kept kept_talk importer transfer"),
     ("programs", "#f6f8fa", "#57606a", "camp c shell uses worked"),
 ]
 WIDTH, HEIGHT, GAP_X, GAP_Y, LEFT, TOP_SPACE = 108, 26, 8, 26, 12, 44

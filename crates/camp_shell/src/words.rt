@@ -78,6 +78,15 @@ refs/heads/BRANCH a commit for each patch, with the files of the branch up to it
 contain is refused before anything is written: a file that is also a folder, and a path with .git
 between its /.
 
+With --import no commands are read. A history of git, written by git fast-export --all
+--show-original-ids --use-done-feature, is brought from this file or standard input into the store:
+each commit is a patch of its id, with its tree, or several if it has over 64 changes, and is durable
+before the next one is begun. Commits that the store has are passed over. A branch of git is one of
+camp, in small letters and with - for other signs; a branch that has other patches stays where it is.
+Authors, dates, messages and tags are not kept. At a fault, which standard error names by its line,
+commit and path, the commits before it stay. It then has the number of commits, too, and with
+--progress, or at a terminal, how far the import is, each second.
+
 With --store the repository is stored in this file, which is made if it does not exist: each
 accepted call is durable before it is answered, and the next conversation over the file continues
 from there. Files that are loaded are stored, too, all or none. If calls can't be stored, they are
@@ -89,7 +98,8 @@ docs/store.md has more.
 Exit status:
   0  the input has ended, whatever was answered
   1  a command of a file was answered by fault or refused; with --export, there is no such branch, or git
-     can't contain it; with --frames, a line that is not a number, a greater number, or an input that ends
+     can't contain it; with --import, a stream with a fault, or a commit that camp can't
+     contain; with --frames, a line that is not a number, a greater number, or an input that ends
      inside a request
   2  the command line is refused
   3  out of memory for the lines of a command or for a command of a file, or a file, input or output failed;

@@ -1,6 +1,7 @@
 //! Calls of a book.
 
-ghost use Rattle.camp_importer.specs.Calling.{AnswersCall};
+ghost use Rattle.std.specs.Prelude.{◌≡◌};
+ghost use Rattle.camp_importer.specs.Calling.{AnswersCall, outcome_of};
 ghost use Rattle.camp_object.specs.Books.{IsEarlier};
 
 use camp_base::Name;
@@ -18,10 +19,22 @@ pub(crate) fn execute(book: &mut Book<State>, call: &Call) -> Result<(), Reason>
     // Calling `count` tells the prover, by its clauses, that the state is lawful.
     let _count = book.state().count();
     match book.ask(SEAT, call) {
-        Ok(Reply::Done(_)) => Ok(()),
-        Ok(Reply::Refused(refusal)) => Err(Reason::Refused(refusal)),
-        Ok(_) => Err(Reason::Memory),
+        Ok(reply) => outcome_of(&reply),
         Err(_) => Err(Reason::Memory),
+    }
+}
+
+/// Returns the outcome of a call that writes, given its reply: accepted or refused. Only questions have the other
+/// replies.
+fn outcome_of(reply: &Reply) -> Result<(), Reason>
+    ensures { result ≡ outcome_of reply.now }
+{
+    match reply {
+        Reply::Done(_) => Ok(()),
+        Reply::Refused(refusal) => Err(Reason::Refused(*refusal)),
+        Reply::Tree(_) => Err(Reason::Memory),
+        Reply::Conflicts(_) => Err(Reason::Memory),
+        Reply::Names(_) => Err(Reason::Memory),
     }
 }
 

@@ -113,12 +113,13 @@ impl<'a> Transfer<'a> {
         ensures grows { IsEarlier repository.old.book repository.new.book }
         ensures goes_on { IsNextTransfer self.old self.new }
     {
-        let Some(commit) = self.commits.get(self.counts.commits) else {
+        let index = self.counts.commits;
+        let Some(commit) = self.commits.get(index) else {
             return Ok(false);
         };
-        let index = self.counts.commits;
+        let is_merge = commit.parents.len() > 1;
         let book = &mut repository.book;
-        match import_at(
+        let imported = match import_at(
             alloc,
             book,
             &self.moments,
@@ -127,12 +128,11 @@ impl<'a> Transfer<'a> {
             index,
             commit,
         ) {
-            Ok(imported) => {
-                self.counts = counted(self.counts, imported, commit.parents.len() > 1);
-            }
+            Ok(imported) => imported,
             Err(fault) => return Err(TransferFault::Commit(fault)),
-        }
+        };
         repository.commit(alloc)?;
+        self.counts = counted(self.counts, imported, is_merge);
         Ok(true)
     }
 
