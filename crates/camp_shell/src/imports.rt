@@ -4,9 +4,9 @@ use crate::stops::Stop;
 use crate::stores::open_store;
 use crate::words::Wish;
 use camp_kept_talk::DurableRepository;
+use camp_stream::line_of;
 use camp_talk::{Limits, TalkFault};
 use camp_transfer::{Counts, StreamStop, Transfer, TransferFault};
-use camp_stream::line_of;
 use sqlite_std_file::File;
 use std::fs;
 use std::io::{self, IsTerminal, Read};
@@ -103,7 +103,11 @@ impl Shown {
         };
         if now.duration_since(last) >= Duration::from_secs(1) {
             self.last = Some(now);
-            let _ = eprintln!(rt; "camp_shell: {} of {} commits", transfer.counts().commits, transfer.len());
+            let _ = eprintln!(rt;
+                "camp_shell: {} of {} commits",
+                transfer.counts().commits,
+                transfer.len()
+            );
         }
     }
 }
@@ -126,6 +130,10 @@ fn check_end<'a>(
         return Ok(());
     };
     let line = line_of(stream, stop.left);
-    let _ = eprintln!(rt; "camp_shell: {}: line {line}: {}", name_of(source), stop.why);
+    let _ = eprintln!(rt;
+        "camp_shell: {}: line {line}: {}",
+        name_of(source),
+        stop.why
+    );
     Err(Stop::Reported(1))
 }

@@ -185,7 +185,9 @@ fn import<'a>(alloc: Global) -> Result<Arg<'a>, AllocError> {
         .num_args(0..=1)
         .default_missing_value(STANDARD_INPUT)
         .value_name("FILE")
-        .help("Bring a stream of git fast-export, from this file or standard input, into the store, and end")
+        .help(
+            "Bring a stream of git fast-export, from this file or standard input, into the store, and end",
+        )
         .requires_arg("store")?
         .conflicts_with("load")?
         .conflicts_with("export")
@@ -195,7 +197,9 @@ fn progress<'a>(alloc: Global) -> Result<Arg<'a>, AllocError> {
     Arg::new(alloc, "progress")
         .long("progress")
         .action(ArgAction::SetTrue)
-        .help("Report each second how many commits were brought in, also where standard error is no terminal")
+        .help(
+            "Report each second how many commits were brought in, also where standard error is no terminal",
+        )
         .requires_arg("import")
 }
 
