@@ -2,13 +2,13 @@
 
 ghost use Rattle.camp_object.specs.Books.{IsEarlier};
 
-use crate::executing::{execute, execute_pull};
+use crate::executing::{SEAT, pull_all};
 use crate::planning::{Planner, has_all};
 use crate::preparing::{branch_at, leave_branch};
 use crate::restoring::restore_branch;
 use camp_base::Name;
 use camp_import::Tip;
-use camp_importer::{Moments, Reason};
+use camp_importer::{Moments, Reason, execute};
 use camp_repo::{Book, Call, State};
 use std::alloc::{AllocError, Global};
 
@@ -76,7 +76,7 @@ fn bring_forward(
         return Ok(false);
     }
     leave_branch(book, planner, AFTER_ALL, &[], tip.branch)?;
-    execute_pull(book, end, tip.branch)?;
+    pull_all(book, end, tip.branch)?;
     Ok(true)
 }
 
@@ -95,7 +95,7 @@ fn make_branch(
                 new: tip.branch,
                 from,
             };
-            execute(book, &copy)
+            execute(book, SEAT, &copy)
         }
         None => restore_branch(alloc, book, moments, Some(tip.id), tip.branch),
     }

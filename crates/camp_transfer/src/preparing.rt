@@ -2,12 +2,12 @@
 
 ghost use Rattle.camp_object.specs.Books.{IsEarlier};
 
-use crate::executing::{execute, execute_pull};
+use crate::executing::{SEAT, pull_all};
 use crate::planning::{Planner, free_name};
 use crate::restoring::restore_branch;
 use camp_base::Name;
 use camp_import::Commit;
-use camp_importer::{Moments, Place, Reason};
+use camp_importer::{Moments, Place, Reason, execute};
 use camp_repo::{Book, Call, State};
 use std::alloc::Global;
 
@@ -108,7 +108,7 @@ pub(crate) fn leave_branch(
                 new: spare,
                 from: branch,
             };
-            execute(book, &copy)
+            execute(book, SEAT, &copy)
         }
         None => Ok(()),
     }
@@ -143,6 +143,6 @@ fn forward(book: &mut Book<State>, end: Name, branch: Name) -> Result<Name, Reas
     if end == branch || book.state().branch(&branch).is_none() {
         return Ok(end);
     }
-    execute_pull(book, end, branch)?;
+    pull_all(book, end, branch)?;
     Ok(branch)
 }

@@ -2,9 +2,9 @@
 
 ghost use Rattle.camp_object.specs.Books.{IsEarlier};
 
-use crate::executing::execute;
+use crate::executing::SEAT;
 use camp_base::Name;
-use camp_importer::{Moments, Reason};
+use camp_importer::{Moments, Reason, execute};
 use camp_repo::{Book, Branch, Call, Names, State};
 use std::alloc::{AllocError, Global};
 
@@ -26,7 +26,7 @@ pub(crate) fn restore_branch(
     };
     let others = others_of(alloc, book.state(), from, &names)?;
     let copy = Call::Branch { new: branch, from };
-    execute(book, &copy)?;
+    execute(book, SEAT, &copy)?;
     if others.is_empty() {
         return Ok(());
     }
@@ -34,7 +34,7 @@ pub(crate) fn restore_branch(
         branch,
         names: Names::new(others),
     };
-    execute(book, &obliterate)
+    execute(book, SEAT, &obliterate)
 }
 
 /// The patches that a branch had right after a commit was recorded on it.
