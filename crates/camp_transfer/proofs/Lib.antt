@@ -1,1 +1,3 @@
+pub mod DurableLemmas
+pub mod GrowthLemmas
 pub mod ReadingLemmas
