@@ -53,15 +53,15 @@ abbrev pub IsReadToEnd : (stream : List ℕ) → List (Option TreeCommit) → (l
 IsReadToEnd stream made left = (left ≡ []) ⊎ (length made ≡ length stream)
 
 -- the id that a command gives, if it is a commit that has one
-abbrev pub id_text : CommandValue → Option (List ℕ)
-id_text (CommitCommand commit) = commit.original_oid
-id_text other = None
+abbrev pub id_in_stream : CommandValue → Option (List ℕ)
+id_in_stream (CommitCommand commit) = commit.original_oid
+id_in_stream other = None
 
 -- the path of a change, as it is in the stream
-abbrev pub path_text : ChangeValue → Option (List ℕ)
-path_text (SetEntry mode content path) = Some path
-path_text (DeleteEntry path) = Some path
-path_text DeleteEntries = None
+abbrev pub path_in_stream : ChangeValue → Option (List ℕ)
+path_in_stream (SetEntry mode content path) = Some path
+path_in_stream (DeleteEntry path) = Some path
+path_in_stream DeleteEntries = None
 
 -- the index of the change that a fault is about
 abbrev pub index_of_fault : CommandFault → Option ℕ
@@ -71,7 +71,7 @@ index_of_fault other = None
 
 -- the path that a fault of a command is about, if it is about one
 abbrev pub faulty_path : CommandValue → CommandFault → Option (List ℕ)
-faulty_path (CommitCommand commit) why = option_and_then (λ index. option_and_then path_text (slice_get commit.changes index)) (index_of_fault why)
+faulty_path (CommitCommand commit) why = option_and_then (λ index. option_and_then path_in_stream (slice_get commit.changes index)) (index_of_fault why)
 faulty_path other why = None
 
 -- the next command of a stream can't be applied: its fault, with the id of the commit and the path that it is about
@@ -81,7 +81,7 @@ pub record FailsNext (objects : Objects) (rest : List ℕ) (why : CommandFault) 
   pub reads : command_at rest ≡ Ok (command, left)
   pub other : command ≢ DoneCommand
   pub applies : AppliesCommand objects command (Err (apply.Fault why))
-  pub named : commit ≡ id_text command
+  pub named : commit ≡ id_in_stream command
   pub about : path ≡ faulty_path command why
 
 -- the last command of a stream, which is not `done`

@@ -5,7 +5,7 @@ ghost use Rattle.std.specs.List.{slice_get};
 ghost use Rattle.camp_stream.specs.CommandValues.{CommitCommand, change_values, text_value, value_of_command, value_of_commit};
 ghost use Rattle.camp_stream.specs.Commands.{command_at};
 ghost use Rattle.camp_transfer.specs.Inside.Reading.{EndsWithBytes, GivesNext, IsReasonFor};
-ghost use Rattle.camp_transfer.specs.Reading.{ReadsCommits, announces_done, commits_among, faulty_path, path_text};
+ghost use Rattle.camp_transfer.specs.Reading.{ReadsCommits, announces_done, commits_among, faulty_path, path_in_stream};
 
 use crate::{StopReason, StreamStop};
 use camp_commits::{ApplyError, CommandFault, StreamObjects, TreeCommit, apply};
@@ -190,7 +190,7 @@ fn path_of<'a>(fault: CommandFault, commit: &Commit<'a>) -> Option<&'a [u8]>
 }
 
 fn path_at<'a>(commit: &Commit<'a>, index: usize) -> Option<&'a [u8]>
-    ensures { text_value result ≡ option_and_then path_text (slice_get (change_values commit.now.changes.items) index) }
+    ensures { text_value result ≡ option_and_then path_in_stream (slice_get (change_values commit.now.changes.items) index) }
 {
     match commit.changes.get(index)? {
         FileChange::Set { path, .. } => Some(*path),

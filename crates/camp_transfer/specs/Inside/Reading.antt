@@ -3,7 +3,7 @@ use Rattle.std.specs.Prelude.{◌≡◌, ℕ, Bool, true, false, List, [], Optio
 use Rattle.camp_commits.specs.Objects.{Objects}
 use Rattle.camp_commits.specs.declared.faults.CommandFault.{CommandFault}
 use Rattle.camp_stream.specs.CommandValues.{CommandValue, text_value}
-use Rattle.camp_transfer.specs.Reading.{AppliesNext, EndsReading, faulty_path, id_text}
+use Rattle.camp_transfer.specs.Reading.{AppliesNext, EndsReading, faulty_path, id_in_stream}
 use Rattle.camp_transfer.specs.declared.faults.StopReason.{StopReason}
 use Rattle.camp_transfer.specs.declared.faults.StopReason.TheVariants.{Malformed, Command, Unfinished}
 use Rattle.camp_transfer.specs.declared.reading.Found.{Found}
@@ -26,4 +26,4 @@ abbrev pub IsReasonFor : CommandFault → CommandValue → StopReason → Type 0
 IsReasonFor why command (Malformed kind) = ⊥
 IsReasonFor why command Unfinished = ⊥
 IsReasonFor why command (Command told commit path) =
-    (told ≡ why) × ((text_value commit ≡ id_text command) × (text_value path ≡ faulty_path command why))
+    (told ≡ why) × ((text_value commit ≡ id_in_stream command) × (text_value path ≡ faulty_path command why))
