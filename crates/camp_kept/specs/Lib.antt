@@ -5,4 +5,5 @@ pub mod Openings
 pub mod Persisting
 pub mod Laws
 pub mod Replaying
+pub mod Sections
 pub mod Titles

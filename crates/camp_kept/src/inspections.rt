@@ -25,7 +25,7 @@ pub fn inspect(alloc: Global, bytes: &[u8]) -> Result<Inspection, PersistenceFau
     ensures refused { IfErr result (λ why. RefusesFile None why bytes.now) }
 {
     let reading = decode(alloc, bytes)?;
-    let book = replay_reading(alloc, &reading, &None)?;
+    let (book, _) = replay_reading(alloc, &reading, &None)?;
     Ok(Inspection {
         calls: book.history().len(),
         digest: reading.digest,

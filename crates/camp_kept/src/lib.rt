@@ -7,9 +7,11 @@ mod laws;
 mod openings;
 mod replays;
 mod repositories;
+mod sections;
 mod texts;
 mod titles;
 
+pub use camp_notes::{NoteLog, PlacedNote};
 pub use camp_repo::{Book, Limits, State};
 pub use camp_store::Disk;
 pub use faults::PersistenceFault;

@@ -16,6 +16,7 @@ ghost use Rattle.sqlite_disk.specs.Disk.{Only};
 use crate::replays::replay;
 use crate::titles::render_title;
 use crate::{MAX_UNTITLED_LEN, PersistenceFault};
+use camp_notes::NoteLog;
 use camp_repo::{Book, Limits, State};
 use camp_store::{Disk, Log, Reading, read};
 use std::alloc::Global;
@@ -25,7 +26,7 @@ pub(crate) fn recover<D: Disk>(
     alloc: Global,
     disk: &mut D,
     wanted: &Option<Limits>,
-) -> Result<(Reading, Book<State>), PersistenceFault>
+) -> Result<(Reading, Book<State>, NoteLog), PersistenceFault>
     ensures reading { IfOk result (λ r. IsTrue (D.Disk.is_clean disk.new) → IsDecodedFrom (D.Disk.seen disk.old) r.0) }
     ensures recovered { IfOk result (λ r. AreRecovered wanted.now (texts_of r.0.texts.items) r.1) }
     ensures refused { IfErr result (λ why. IsTrue (D.Disk.is_clean disk.new) → RefusesToOpen (D.Disk.is_usable disk.old) wanted.now why (D.Disk.seen disk.old)) }
@@ -38,8 +39,8 @@ pub(crate) fn recover<D: Disk>(
     ensures faults { CountsDiskFaults result (D.Disk.faults disk.old) (D.Disk.faults disk.new) }
 {
     let reading = read(alloc, disk)?;
-    let book = replay_reading(alloc, &reading, wanted)?;
-    Ok((reading, book))
+    let (book, notes) = replay_reading(alloc, &reading, wanted)?;
+    Ok((reading, book, notes))
 }
 
 /// Replays the calls whose texts were read. If limits are wanted, the store has to have them.
@@ -47,8 +48,8 @@ pub(crate) fn replay_reading(
     alloc: Global,
     reading: &Reading,
     wanted: &Option<Limits>,
-) -> Result<Book<State>, PersistenceFault>
-    ensures recovered { IfOk result (AreRecovered wanted.now (texts_of reading.now.texts.items)) }
+) -> Result<(Book<State>, NoteLog), PersistenceFault>
+    ensures recovered { IfOk result (λ r. AreRecovered wanted.now (texts_of reading.now.texts.items) r.0) }
     ensures refused { IfErr result (λ why. (file : List ℕ) → IsDecodedFrom file reading.now → RefusesFile wanted.now why file) }
     ensures short { IfOk result (λ _. texts_of reading.now.texts.items ≡ [] → reading.now.tail_len ≤ max_untitled_len) }
     ensures not_disk { IfErr result IsNoDiskFault }

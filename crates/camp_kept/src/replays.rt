@@ -8,9 +8,10 @@ ghost use Rattle.camp_store.specs.Blocks.{DecodesTo};
 ghost use Rattle.camp_store.specs.Logs.{texts_of};
 
 use crate::PersistenceFault;
+use crate::sections::parse_section;
 use crate::titles::{limits_of, new_limits};
+use camp_notes::NoteLog;
 use camp_repo::{Book, Call, Limits, Object, State, new_book};
-use camp_script::parse_call;
 use std::alloc::{AllocError, Global};
 
 /// The number of bytes of a block before its text: its mark and its head.
@@ -23,13 +24,13 @@ pub(crate) fn replay(
     alloc: Global,
     texts: &[Vec<u8>],
     wanted: &Option<Limits>,
-) -> Result<Book<State>, PersistenceFault>
-    ensures recovered { IfOk result (AreRecovered wanted.now (texts_of texts.now)) }
+) -> Result<(Book<State>, NoteLog), PersistenceFault>
+    ensures recovered { IfOk result (λ r. AreRecovered wanted.now (texts_of texts.now) r.0) }
     ensures refused { IfErr result (λ why. (file : List ℕ) → DecodesTo (texts_of texts.now) file → RefusesFile wanted.now why file) }
     ensures not_disk { IfErr result IsNoDiskFault }
 {
     let Some((title, others)) = texts.split_first() else {
-        return Ok(new_book(alloc, new_limits(wanted))?);
+        return Ok((new_book(alloc, new_limits(wanted))?, NoteLog::new(alloc)));
     };
     let limits = limits_of(alloc, title, wanted)?;
     replay_all(alloc, limits, title, others)
@@ -41,16 +42,17 @@ fn replay_all(
     limits: Limits,
     title: &[u8],
     texts: &[Vec<u8>],
-) -> Result<Book<State>, PersistenceFault>
+) -> Result<(Book<State>, NoteLog), PersistenceFault>
     requires title { title.now ≡ title_of limits }
     requires range { CanBeLimits limits }
-    ensures texts { IfOk result (AreReplayed limits (texts_of texts.now)) }
+    ensures texts { IfOk result (λ r. AreReplayed limits (texts_of texts.now) r.0) }
     ensures refused { IfErr result (λ why. (wanted : Option Bounds) (file : List ℕ) → DecodesTo (title.now ∷ texts_of texts.now) file → RefusesFile wanted why file) }
     ensures not_disk { IfErr result IsNoDiskFault }
 {
     let mut book = new_book(alloc, limits)?;
-    replay_each(alloc, &mut book, title, texts)?;
-    Ok(book)
+    let mut notes = NoteLog::new(alloc);
+    replay_each(alloc, &mut book, &mut notes, title, texts)?;
+    Ok((book, notes))
 }
 
 // Executes on a new book the calls with these texts, which come after a title. The fault contains the number of the
@@ -58,6 +60,7 @@ fn replay_all(
 fn replay_each(
     alloc: Global,
     book: &mut Book<State>,
+    notes: &mut NoteLog,
     title: &[u8],
     texts: &[Vec<u8>],
 ) -> Result<(), PersistenceFault>
@@ -71,7 +74,7 @@ fn replay_each(
     let mut at = BEFORE_TEXT.saturating_add(title.len());
     for text in texts {
         let call = book.history().len().saturating_add(1);
-        if !replay_call(alloc, book, text)? {
+        if !replay_section(alloc, book, notes, text)? {
             return Err(PersistenceFault::Damaged { call, at });
         }
         at = at.saturating_add(BEFORE_TEXT).saturating_add(text.len());
@@ -79,13 +82,22 @@ fn replay_each(
     Ok(())
 }
 
-// Parses a text and executes its call. True if it is a call and was accepted.
-fn replay_call(alloc: Global, book: &mut Book<State>, text: &[u8]) -> Result<bool, AllocError>
-    ensures { IfOk result (λ yes. ReplaysText book.old text.now yes book.new) }
-{
-    match parse_call(alloc, text)? {
-        Some(call) => execute(book, &call),
-        None => Ok(false),
+// Parses a text, takes its notes and executes its call. True if it is notes and a call, if there is one, that was accepted.
+fn replay_section(
+    alloc: Global,
+    book: &mut Book<State>,
+    notes: &mut NoteLog,
+    text: &[u8],
+) -> Result<bool, AllocError> {
+    let Some(section) = parse_section(alloc, text)? else {
+        return Ok(false);
+    };
+    for note in &section.notes {
+        notes.push(book.history().len(), note.try_clone()?)?;
+    }
+    match &section.call {
+        Some(call) => execute(book, call),
+        None => Ok(true),
     }
 }
 

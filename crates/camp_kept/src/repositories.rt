@@ -9,8 +9,9 @@ ghost use Rattle.camp_store.specs.declared.faults.StoreFault.TheVariants as stor
 
 use crate::PersistenceFault;
 use crate::openings::{ensure_title, recover, torn_tail_len};
-use crate::texts::render_calls;
+use crate::texts::render_sections;
 use crate::titles::new_limits;
+use camp_notes::NoteLog;
 use camp_repo::{Book, Limits, State};
 use camp_store::{Disk, Log, StoreFault};
 use std::alloc::Global;
@@ -21,9 +22,13 @@ pub struct DurableRepository<D: Disk> {
     /// The book. Execute calls on it; do not replace it by another: `commit` refuses one with fewer calls than are
     /// durable, and nothing is promised of one with as many.
     pub book: Book<State>,
+    /// The notes, each with the number of calls before it.
+    pub notes: NoteLog,
     log: Log<D>,
     /// The number of calls that are known to be durable.
     durable_count: usize,
+    /// The number of notes that are known to be durable.
+    durable_notes: usize,
     /// The length of the torn tail that the file had when it was opened, in bytes.
     torn_tail_len: usize,
 }
@@ -57,7 +62,7 @@ impl<D: Disk> DurableRepository<D> {
         ensures crash_err { IfErr result (λ e. (stored : StoreContents) → LeavesCalls D.Disk.seen D.Disk.may_leave (new_limits wanted) stored disk
             → IsTrue (D.Disk.is_clean e.1) → LeavesCalls D.Disk.seen D.Disk.may_leave (new_limits wanted) stored e.1) }
     {
-        let (reading, book) = match recover(alloc, &mut disk, &wanted) {
+        let (reading, book, notes) = match recover(alloc, &mut disk, &wanted) {
             Ok(found) => found,
             Err(fault) => return Err((fault, disk)),
         };
@@ -68,8 +73,10 @@ impl<D: Disk> DurableRepository<D> {
         match ensure_title(alloc, log, &reading.texts, new_limits(&wanted)) {
             Ok(log) => Ok(DurableRepository {
                 durable_count: book.history().len(),
+                durable_notes: notes.placed().len(),
                 torn_tail_len: torn_tail_len(&reading),
                 book,
+                notes,
                 log,
             }),
             Err(failed) => Err(failed),
@@ -89,7 +96,11 @@ impl<D: Disk> DurableRepository<D> {
         ensures known { result ≡ length (accepted_by self.now).calls - durable_count_in self.now }
         ensures durable { (stored : StoreContents) → PersistsCalls D.Disk.seen D.Disk.may_leave stored self.now → result ≡ length (accepted_by self.now).calls - length stored.calls }
     {
-        self.book.history().len().saturating_sub(self.durable_count)
+        self.book
+            .history()
+            .len()
+            .saturating_sub(self.durable_count)
+            .saturating_add(self.notes.placed().len().saturating_sub(self.durable_notes))
     }
 
     /// Persists all accepted calls of the book. After `Ok` each crash leaves a file with all of them. After an error a
@@ -120,9 +131,20 @@ impl<D: Disk> DurableRepository<D> {
         if count < self.durable_count {
             return Err(PersistenceFault::Store(StoreFault::Failed));
         }
-        let texts = render_calls(alloc, &history[self.durable_count..])?;
+        let notes = self.notes.placed();
+        let given = notes.len();
+        if given < self.durable_notes {
+            return Err(PersistenceFault::Store(StoreFault::Failed));
+        }
+        let texts = render_sections(
+            alloc,
+            self.durable_count,
+            &history[self.durable_count..],
+            &notes[self.durable_notes..],
+        )?;
         self.log.append(alloc, &texts)?;
         self.durable_count = count;
+        self.durable_notes = given;
         Ok(())
     }
 }
