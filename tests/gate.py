@@ -210,7 +210,8 @@ def run_around(progress, beside, waiting, uses, is_kept):
             for it in [it for it in waiting if it[0] <= progress.proved]:
                 waiting.remove(it)
                 _, test, words, least, title = it
-                pool.submit(run_one, test, progress, words, max(least, niceness), title)
+                # Mutants, which give way for hours, take no place of a test.
+                (others if least else pool).submit(run_one, test, progress, words, max(least, niceness), title)
 
         start_ready()
         if is_kept:
