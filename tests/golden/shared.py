@@ -96,13 +96,14 @@ def from_a_file(report, environment, folder):
     """What was read of a log is kept in a file, from which a member starts: it reads the log from there on. A file of another log is
     refused."""
     log, kept = "sqlite:started.db", ("--kept", "started.kept")
-    first = ask(environment, folder, log, b"record main one add one\nrecord main two add two\n", *kept)
-    report.expect_run("a log that is kept", first, b"ok 1\nok 2\n")
-    report.expect_run("another member", ask(environment, folder, log, b"record main three add three\n"), b"ok 3\n")
+    first = ask(environment, folder, log, b"record main one add one\nrecord main two add two\nrecord main three add three\n", *kept)
+    report.expect_run("a log that is kept", first, b"ok 1\nok 2\nok 3\n")
+    report.expect_run("another member", ask(environment, folder, log, b"record main four add four\n"), b"ok 4\n")
     with sqlite3.connect(f"{folder}/started.db") as base:
         base.execute("UPDATE entries SET text = ? WHERE at = 1", (b"something else\n",))
-    later = ask(environment, folder, log, b"names main\nrecord main four add four\n", *kept)
-    report.expect_run("a member that starts from the file", later, b"names 3\none\ntwo\nthree\nok 4\n")
+    # The entry before the last one that was kept has to be whole, since the last one's seal covers it; those before it are not read.
+    later = ask(environment, folder, log, b"names main\nrecord main five add five\n", *kept)
+    report.expect_run("a member that starts from the file", later, b"names 4\none\ntwo\nthree\nfour\nok 5\n")
     without = ask(environment, folder, log, b"names main\n")
     report.expect("a member that reads all of it", (without.returncode, b"at entry 1 of the log" in without.stderr), (3, True))
     other = ask(environment, folder, "sqlite:notes.db", b"names main\n", *kept)
