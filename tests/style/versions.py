@@ -11,6 +11,7 @@ PLACES = {
     "apps/campvc/campvc/__init__.py": '__version__ = "{}"',
     "apps/campvc/pyproject.toml": 'version = "{}"',
     "clients/rust/Cargo.toml": 'version = "{}"',
+    "clients/rust/etcd/Cargo.toml": 'version = "{}"',
 }
 
 

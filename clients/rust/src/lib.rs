@@ -47,7 +47,7 @@ pub use names::{FilePath, Line, Malformed, Name};
 pub use questions::{Questions, WhatIf};
 pub use repository::{Repository, View};
 pub use results::{AcceptedCall, AnnotatedLine, Outcome, Shown};
-pub use shared::{Appended, Log, Shared};
+pub use shared::{patience, Appended, Log, Shared};
 #[cfg(feature = "sqlite")]
 pub use sqlite_log::SqliteLog;
 pub use trees::Tree;

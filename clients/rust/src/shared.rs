@@ -9,8 +9,12 @@ use std::io::Read;
 use std::thread;
 use std::time::{Duration, Instant};
 
-/// The seconds that [`Shared`] waits for its log.
-pub(crate) const PATIENCE: Duration = Duration::from_secs(5);
+/// How long a [`Shared`] repository waits for its log: as many seconds as CAMP_PATIENCE says, or 5.
+pub fn patience() -> Duration {
+    let said = std::env::var("CAMP_PATIENCE").ok();
+    let seconds = said.and_then(|it| it.parse::<f64>().ok()).unwrap_or(5.0);
+    Duration::try_from_secs_f64(seconds.min(1e9)).unwrap_or(Duration::from_secs(5))
+}
 
 /// The pause before a log that did not answer is asked again.
 pub(crate) const PAUSE: Duration = Duration::from_millis(5);
@@ -122,7 +126,7 @@ impl<L: Log> Shared<L> {
 
     // The answer to the last request. Those to earlier ones, for which nobody waits any more, are dropped.
     fn await_answer(&mut self) -> Result<Answer, Error> {
-        let end = Instant::now() + PATIENCE;
+        let end = Instant::now() + patience();
         loop {
             let is_sent = self.take_step()?;
             while let Some((request, answer)) = self.member.answer()? {

@@ -1,7 +1,7 @@
 use crate::checksums::{sealed, unsealed};
 use crate::errors::LogError;
 use crate::queue::Queue;
-use crate::shared::{Appended, Log, PATIENCE, PAUSE};
+use crate::shared::{patience, Appended, Log, PAUSE};
 use crate::sqlite::{Sqlite, CONSTRAINT, DONE, FULL, READ_ONLY, TOO_BIG};
 use std::ffi::c_int;
 use std::path::Path;
@@ -38,7 +38,7 @@ impl SqliteLog {
             (DONE, _) => return Err(LogError::NoLog("a file of another program".to_owned())),
             _ => return Err(LogError::NoLog(base.message())),
         }
-        let end = Instant::now() + PATIENCE;
+        let end = Instant::now() + patience();
         for sql in OPEN {
             while base.run(sql, "", b"", 0).0 != DONE {
                 wait(&mut base, end)?;
