@@ -1,19 +1,12 @@
 """A log in etcd 3.4 or later, over its JSON gateway: for processes of many machines."""
 import base64
 import contextlib
-import http.client
 import json
 import threading
 from typing import Dict, List, Sequence
 
-from .logs import TIMEOUT, TITLE, AppendOutcome, Away, Damaged, default_patience, write_title
-
-# What comes of an endpoint that is not there, or ends in between.
-NO_ANSWER = (OSError, http.client.HTTPException, ValueError, Away)
-
-
-def _text(data: bytes) -> str:
-    return base64.b64encode(data).decode("ascii")
+from .etcd_gateway import NO_ANSWER, Gateway, coded
+from .logs import TITLE, AppendOutcome, Away, Damaged, default_patience, write_title
 
 
 class EtcdLog:
@@ -21,59 +14,48 @@ class EtcdLog:
     a removed one shows. They come by a watch, and after all that was done to them before comes a key that who opens the log writes."""
 
     def __init__(self, endpoints: Sequence[str], prefix: str, title: bytes = TITLE):
-        self.endpoints, self.prefix = list(endpoints), prefix.encode()
-        self._range = {"key": _text(self.prefix + b"/entries/"), "range_end": _text(self.prefix + b"/entries0")}
-        self._count, self._opened = _text(self.prefix + b"/count"), _text(self.prefix + b"/opened")
-        self._entries, self._revision, self._damaged, self._turn, self._closed, self._first = [], 0, None, 0, False, 0
+        self._gateway, self.prefix = Gateway(endpoints), prefix.encode()
+        self._range = {"key": coded(self.prefix + b"/entries/"), "range_end": coded(self.prefix + b"/entries0")}
+        self._count, self._opened = coded(self.prefix + b"/count"), coded(self.prefix + b"/opened")
+        self._entries, self._revision, self._damaged, self._closed = [], 0, None, False
+        # The revisions of what was written when it was opened, and last.
+        self._first, self._written = 0, 0
         self._changed = threading.Condition()
         write_title(self, title)
         # Where etcd is full, or is read-only, the log can be read all the same.
         with contextlib.suppress(Away):
-            self._first = int(self._asked("kv/put", {"key": self._opened, "value": ""})["header"]["revision"])
+            self._first = int(self._gateway.ask("kv/put", {"key": self._opened, "value": ""})["header"]["revision"])
         threading.Thread(target=self._follow, daemon=True).start()
 
-    def _post(self, path: str, asked: Dict, timeout: float = TIMEOUT) -> http.client.HTTPResponse:
-        """The answer of the endpoint whose turn it is."""
-        connection = http.client.HTTPConnection(self.endpoints[self._turn % len(self.endpoints)], timeout=timeout)
-        connection.request("POST", "/v3/" + path, json.dumps(asked), {"Content-Type": "application/json", "Connection": "close"})
-        return connection.getresponse()
-
-    def _asked(self, path: str, asked: Dict, timeout: float = TIMEOUT) -> Dict:
-        """An answer, from whichever endpoint gives one."""
-        for _ in range(4 * len(self.endpoints)):
-            with contextlib.suppress(*NO_ANSWER):
-                response = self._post(path, asked, timeout)
-                body = response.read()
-                if response.status == 200:
-                    return json.loads(body)
-            self._turn += 1
-        raise Away("no endpoint of etcd answers")
-
     def append(self, tag: str, text: bytes) -> AppendOutcome:
-        key = _text(self.prefix + b"/entries/" + tag.encode())
-        puts = [{"request_put": {"key": one, "value": value}} for one, value in ((key, _text(text)), (self._count, ""))]
+        key = coded(self.prefix + b"/entries/" + tag.encode())
+        puts = [{"request_put": {"key": one, "value": value}} for one, value in ((key, coded(text)), (self._count, ""))]
         free = {"key": key, "target": "CREATE", "result": "EQUAL", "create_revision": "0"}
         with contextlib.suppress(*NO_ANSWER):
-            response = self._post("kv/txn", {"compare": [free], "success": puts})
-            body = response.read()
-            if response.status == 200:
-                return AppendOutcome.APPENDED if json.loads(body).get("succeeded") else AppendOutcome.TAKEN
+            status, body = self._gateway.answer("kv/txn", {"compare": [free], "success": puts})
+            if status == 200:
+                found = json.loads(body)
+                if not found.get("succeeded"):
+                    return AppendOutcome.TAKEN
+                self._written = int(found["header"]["revision"])
+                return AppendOutcome.APPENDED
             if any(words in body for words in (b"too large", b"larger than max", b"space exceeded")):
-                found = self._asked("kv/range", {"key": key, "count_only": True})
+                found = self._gateway.ask("kv/range", {"key": key, "count_only": True})
                 return AppendOutcome.UNKNOWN if found.get("count") else AppendOutcome.REFUSED
-        self._turn += 1
+        self._gateway.take_next()
         return AppendOutcome.UNKNOWN
 
     def read(self, index: int, wait: float = 0.0) -> List[bytes]:
         with self._changed:
-            self._changed.wait_for(lambda: len(self._entries) > index or self._damaged is not None, wait)
+            is_there = lambda: len(self._entries) > index and self._revision >= self._written
+            self._changed.wait_for(lambda: is_there() or self._damaged is not None, wait)
             if len(self._entries) <= index and self._damaged is not None:
                 raise Damaged(self._damaged)
             return self._entries[index:index + 1024]
 
     def length(self) -> int:
         """How many entries were counted; more than can be read where one was changed or removed, at least if that was before this was opened."""
-        found = self._asked("kv/range", {"key": self._count}).get("kvs", [])
+        found = self._gateway.ask("kv/range", {"key": self._count}).get("kvs", [])
         with self._changed:
             while (seen := self._revision) < self._first and self._damaged is None:
                 if not self._changed.wait_for(lambda: self._revision > seen or self._damaged is not None, default_patience()):
@@ -82,16 +64,19 @@ class EtcdLog:
 
     def close(self) -> None:
         self._closed = True
+        self._gateway.close()
 
     def _follow(self) -> None:
         """Watches the entries, from the first one that is not known."""
         while not self._closed and self._damaged is None:
-            watch = {**self._range, "range_end": _text(self.prefix + b"/opened0"), "start_revision": str(self._revision + 1)}
+            watch = {**self._range, "range_end": coded(self.prefix + b"/opened0"), "start_revision": str(self._revision + 1)}
             with contextlib.suppress(*NO_ANSWER):
-                response = self._post("watch", {"create_request": watch}, 2.0)
-                while self._damaged is None and (line := response.readline()):
-                    self._take(json.loads(line).get("result", {}))
-            self._turn += 1
+                for line in self._gateway.lines("watch", {"create_request": watch}, 2.0):
+                    found = json.loads(line).get("result", {})
+                    self._take(found)
+                    if found.get("canceled") or self._damaged is not None:
+                        break
+            self._gateway.take_next()
 
     def _take(self, response: Dict) -> None:
         with self._changed:
@@ -111,7 +96,7 @@ class EtcdLog:
     def _load(self) -> None:
         """All entries as they are now, where etcd no longer knows how they came; as many as were ever counted."""
         entries = {**self._range, "sort_target": "CREATE", "sort_order": "ASCEND"}
-        found = self._asked("kv/txn", {"success": [{"request_range": one} for one in (entries, {"key": self._count})]}, 30.0)
+        found = self._gateway.ask("kv/txn", {"success": [{"request_range": one} for one in (entries, {"key": self._count})]}, 30.0)
         kvs, counts = (answer["response_range"].get("kvs", []) for answer in found["responses"])
         texts = [base64.b64decode(kv.get("value", "")) for kv in kvs]
         if len(texts) != int(counts[0]["version"]) or texts[:len(self._entries)] != self._entries or any(kv["version"] != "1" for kv in kvs):

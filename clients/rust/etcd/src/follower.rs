@@ -73,7 +73,7 @@ impl Follower {
                 state.take(event, &opened);
             }
         });
-        self.next_revision().is_some()
+        response["canceled"] != true && self.next_revision().is_some()
     }
 
     // Reads all entries, where etcd no longer knows how they came.
