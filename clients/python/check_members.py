@@ -1,11 +1,12 @@
 """Several members share one log under faults, and a replay of the log in one session checks what each was answered.
 
-    python3 check_members.py sqlite:PATH | etcd:HOST:PORT[,HOST:PORT ..]/PREFIX | postgres:DSN [--members N] [--calls N] [--wrong NAME]
+    python3 check_members.py sqlite:PATH | etcd:HOST:PORT[,HOST:PORT ..]/PREFIX | postgres:DSN [--members N] [--calls N] [--rounds N] [--wrong NAME]
 
 The library is found as `import camp` finds it. A fifth of the appends get no answer: of these a quarter never come, a quarter come, a
 quarter come late, mostly after the retry, and a quarter come twice. A twentieth of the reads get none either. Each member is a thread with a
-session of its own; eight of 125,000 calls each are a million. `--wrong` plants a member that is wrong in one way (`WRONG`), which the check
-has to find. The exit status is 0 where the replies are as promised, or where what was planted is found."""
+session of its own. Each round has a log of its own; a hundred of eight members with 1,250 calls each are a million calls. `--wrong` plants a
+member that is wrong in one way (`WRONG`), which the check has to find. The exit status is 0 where the replies are as promised, or where what
+was planted is found."""
 
 import argparse
 import collections
@@ -302,27 +303,38 @@ def not_asked(run, replay):
     return ["%r stands %d times and was asked %d times" % (key[1][:60], times, asked[key]) for key, times in there.items() if times > asked[key]]
 
 
-def main():
-    words = argparse.ArgumentParser(description=__doc__.splitlines()[0])
-    words.add_argument("log")
-    words.add_argument("--members", type=int, default=4)
-    words.add_argument("--calls", type=int, default=100)
-    words.add_argument("--seed", default="1")
-    words.add_argument("--wrong", choices=sorted(WRONG))
-    given = words.parse_args()
-    run, began = Run(given.log, given.members, given.calls, given.wrong, given.seed), time.monotonic()
+def try_round(log_name, given, seed):
+    """Runs the members over a log and checks it; prints what was found, and returns whether it is as wanted."""
+    run, began = Run(log_name, given.members, given.calls, given.wrong, seed), time.monotonic()
     run.go()
-    seconds, log, texts = time.monotonic() - began, open_log(given.log), []
+    seconds, log, texts = time.monotonic() - began, open_log(log_name), []
     while len(texts) < log.length():
         texts += log.read(len(texts), 1.0)
+    log.close()
     replay, wrong = check(run, texts)
     for line in wrong[:5] + run.stops[:1]:
         print(line)
     print("%d members, %d answers, %d entries, %d calls in the history, %d appends without an answer, %d reads without one, %d late, %d entries "
           "twice, %d stops, %.1f seconds, %d wrong" % (given.members, len(run.answered), len(texts), replay.count, run.lost, run.unread, run.late,
-                                                       run.doubled, len(run.stops), seconds, len(wrong)))
+                                                       run.doubled, len(run.stops), seconds, len(wrong)), flush=True)
     lacks = len(run.answered) < given.members * given.calls and not run.stops
-    return 0 if bool(wrong or run.stops) == bool(given.wrong) and not lacks else 1
+    return bool(wrong or run.stops) == bool(given.wrong) and not lacks
+
+
+def main():
+    words = argparse.ArgumentParser(description=__doc__.splitlines()[0])
+    words.add_argument("log")
+    words.add_argument("--members", type=int, default=4)
+    words.add_argument("--calls", type=int, default=100)
+    words.add_argument("--rounds", type=int, default=1)
+    words.add_argument("--seed", default="1")
+    words.add_argument("--wrong", choices=sorted(WRONG))
+    given = words.parse_args()
+    if given.rounds == 1:
+        return 0 if try_round(given.log, given, given.seed) else 1
+    found = [try_round("%s-%d" % (given.log, at), given, "%s %d" % (given.seed, at)) for at in range(given.rounds)]
+    print("%d rounds of %d calls, %d not as wanted" % (given.rounds, given.members * given.calls, found.count(False)))
+    return 0 if all(found) else 1
 
 
 if __name__ == "__main__":

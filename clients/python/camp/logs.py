@@ -362,14 +362,14 @@ class RememberedLog:
 
 def _patiently(ask, seconds: Optional[float] = None, pause: float = PAUSE):
     """What is asked, asked again while another process holds the file, for so many seconds, or as long as an engine may be silent."""
-    end = time.monotonic() + (default_patience() if seconds is None else seconds)
+    began = time.monotonic()
     while True:
         try:
             return ask()
         except sqlite3.OperationalError as error:
             if not any(word in str(error) for word in ("locked", "busy", "locking protocol")):
                 raise
-            if time.monotonic() > end:
+            if time.monotonic() > began + (default_patience() if seconds is None else seconds):
                 raise Away("the file is locked") from None
         time.sleep(pause)
 
