@@ -198,8 +198,8 @@ fn members_have_one_history() {
     let refused = ann.record(&main, &name("p0-0"), &[Change::add("f").unwrap()]);
     assert!(refused.unwrap_err().refusal().is_some());
     change("kv/put", &prefix, "entries/other");
-    assert_eq!(ann.sync(), Err(Error::Log(LogError::Stopped(42))));
-    let stopped = ann.branch(&name("more"), &main);
-    assert_eq!(stopped, Err(Error::Log(LogError::Stopped(42))));
+    let stopped = Err(Error::Log(LogError::Stopped(42)));
+    assert_eq!(ann.branch(&name("more"), &main), stopped);
+    assert_eq!(ann.sync(), stopped);
     assert_eq!(ann.branches(), Ok(vec![main, other]));
 }
