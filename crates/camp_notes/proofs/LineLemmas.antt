@@ -18,9 +18,9 @@ too_long bytes text rest byte after is next full = record {
   long = (let size = length-append text (byte ∷ []) in omega (arith, size, full));
 }
 
-pub not_ended : (bytes text rest : List ℕ) → bytes ≡ signed_bytes text ++ rest → length rest ≡ 0 → EndsUnended bytes
-not_ended bytes text [] is none = record { text = text; is = is ∙ append-nil (signed_bytes text) }
-not_ended bytes text (x ∷ rest) is none = absurd (omega (arith, none))
+pub not_ended : (bytes text rest : List ℕ) → bytes ≡ signed_bytes text ++ rest → length rest ≡ 0 → length text ≤ longest_note → EndsUnended bytes
+not_ended bytes text [] is none short = record { text = text; short = short; is = is ∙ append-nil (signed_bytes text) }
+not_ended bytes text (x ∷ rest) is none short = absurd (omega (arith, none))
 
 pub ends_here : (bytes text rest : List ℕ) (first : ℕ) (after : List ℕ) → bytes ≡ signed_bytes text ++ rest → EndsText rest → rest ≡ first ∷ after → length text ≤ longest_note → BeginsLines bytes text after
 ends_here bytes text rest first after is ends split short =

@@ -74,6 +74,7 @@ lines_fault NotEnded bytes name rest begins wrong =
     inr (inr (record {
       name = name;
       text = wrong.text;
+      short = wrong.short;
       is = begins.is ∙ ap (λ (l : List ℕ). title_line name ++ (codes "#+" ++ l)) wrong.is;
       named = begins.named;
     }))

@@ -1,5 +1,5 @@
 -- Why bytes are not the text of notes.
-use Rattle.std.specs.Prelude.{◌≡◌, ◌≢◌, ◌⊎◌, ◌<◌, ◌+◌, ◌==◌, not, ℕ, true, false, IsTrue, List, ◌++◌, codes, count_by, length}
+use Rattle.std.specs.Prelude.{◌≡◌, ◌≢◌, ◌⊎◌, ◌<◌, ◌≤◌, ◌+◌, ◌==◌, not, ℕ, true, false, IsTrue, List, ◌++◌, codes, count_by, length}
 use Rattle.std.specs.List.{AllByRecursion, list_all}
 use Rattle.camp_base.specs.Bytes.{is_name}
 use Rattle.camp_base.specs.Signs.{newline}
@@ -51,10 +51,11 @@ pub record HasNoLine (bytes : List ℕ) : Type 0 where
   pub named : IsTrue (is_name name)
   pub none : begins_text_line more ≡ false
 
--- bytes begin with the first line of a note, and end within a line of its text
+-- bytes begin with the first line of a note, and end within a line of its text, which is not too long
 pub record EndsInLine (bytes : List ℕ) : Type 0 where
   pub name : List ℕ
   pub text : List ℕ
+  pub short : length text ≤ longest_note
   pub is : bytes ≡ title_line name ++ (codes "#+" ++ signed_bytes text)
   pub named : IsTrue (is_name name)
 

@@ -42,6 +42,7 @@ pub record BeginsTooLong (bytes : List ℕ) : Type 0 where
 -- bytes after the sign of a first line are those of a text without its last line feed
 pub record EndsUnended (bytes : List ℕ) : Type 0 where
   pub text : List ℕ
+  pub short : length text ≤ longest_note
   pub is : bytes ≡ signed_bytes text
 
 -- why bytes after the sign of a first line do not begin with a text
