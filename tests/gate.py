@@ -27,6 +27,8 @@ PATIENCE, LEAST, MINUTE, IN_ANY_CASE = 20, 1800, 60, 4
 GIVING_WAY, SHARING = 10, 5
 # Seconds without a line after which the progress is printed.
 QUIET = 50
+# The most memory that a crate's proof was seen to take, in GB, with room for the tests beside it.
+ROOM = 5
 # So many of the last lines of each part that failed are printed once more at the end.
 LAST_LINES = 40
 # What `rt ci` prints of a crate that is proved, and at its end.
@@ -195,9 +197,13 @@ def run_all():
 
 
 def machine():
-    """The machine in words. `rt ci` proves as many crates side by side as its estimate of their memory lets it."""
-    free = re.search(r"^MemAvailable: +(\d+)", read_text("/proc/meminfo"), re.M)
-    return f"{len(os.sched_getaffinity(0))} processors, {int(free[1]) / 1e6:.0f} GB of memory free, load {os.getloadavg()[0]:.1f}"
+    """The machine in words."""
+    return f"{len(os.sched_getaffinity(0))} processors, {free_memory():.0f} GB of memory free, load {os.getloadavg()[0]:.1f}"
+
+
+def free_memory():
+    """In GB."""
+    return int(re.search(r"^MemAvailable: +(\d+)", read_text("/proc/meminfo"), re.M)[1]) / 1e6
 
 
 def run_around(progress, beside, waiting, uses, is_kept):
@@ -248,7 +254,7 @@ def keep_products(progress, text):
 def prove(progress, when_proved):
     """Runs `rt ci` on the tree, prints its lines, and takes over its counts. Whether it passed."""
     progress.begin("rt ci")
-    ran = programs.start(["rt", "ci"], cwd=progress.tree, stdin=subprocess.DEVNULL, stderr=subprocess.STDOUT)
+    ran = programs.start(["rt", "ci"], cwd=progress.tree, env=lanes(), stdin=subprocess.DEVNULL, stderr=subprocess.STDOUT)
     counts, lines = (0, 1), []
     for line in ran.stdout:
         text = line.decode(errors="replace").rstrip()
@@ -265,3 +271,10 @@ def prove(progress, when_proved):
         progress.failures.append(("rt ci", "\n".join(lines)))
     progress.end("rt ci", passed, max(failed, 1) if status else failed)
     return status == 0
+
+
+def lanes():
+    """The environment of `rt ci`. It reckons with twice the memory that a crate takes, so that camp_talk, for which others wait, would wait
+    for smaller ones to end: where memory is there, it is told to prove as many crates side by side as there are processors."""
+    has_room = free_memory() > ROOM * programs.JOBS
+    return {**os.environ, **({"RT_JOBS": str(programs.JOBS)} if has_room else {})}
