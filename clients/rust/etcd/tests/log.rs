@@ -157,6 +157,7 @@ fn a_log_that_is_none_or_is_away_has_an_error() {
     let _alone = alone();
     let prefix = prefix();
     change("kv/put", &prefix, "entries/notes");
+    change("kv/put", &prefix, "count");
     let foreign = Shared::open(open(&prefix)).err();
     assert!(matches!(foreign, Some(Error::Log(LogError::NoLog(_)))));
     let away = EtcdLog::open(&["127.0.0.1:1"], &prefix).err();
