@@ -106,18 +106,20 @@ module _ {B F Q A C E H : Type 0} (backend : backends.Ghosts B Q A E C) (framing
     run_stops why gathers stop.Internal flushes = absurd flushes
 
 -- pending responses were written, and then one more, or a prefix of it
-module _ {B Q A C E H : Type 0} (backend : backends.Ghosts B Q A E C) (executed : B) (text : List ℕ) (old held : Option (List ℕ)) (last : B) (done : Unit {0})
-    (flushes : FlushesGroup {H = H} backend executed text old (Ok done) last held) (more : List ℕ) (new : Option (List ℕ)) where
-  pub flushes_more : Appends held new more → FlushesGroup {H = H} backend executed (text ++ more) old (Ok done) last new
+module _ {B Q A C E : Type 0} (backend : backends.Ghosts B Q A E C) (executed : B) (text : List ℕ) (old held : Option (List ℕ)) (last : B)
+    (flushes : backend.commits executed (Ok tt) last × Appends old held text) (more : List ℕ) (new : Option (List ℕ)) where
+  pub flushes_more : Appends held new more → backend.commits executed (Ok tt) last × Appends old new (text ++ more)
   flushes_more writes = (flushes.0, Appends-trans old held new text more flushes.1 writes)
 
   pub flushes_some : AppendsSome held new more → backend.commits executed (Ok tt) last × AppendsSome old new (text ++ more)
   flushes_some (some, rest, is, writes) = (
     flushes.0,
-    text ++ some,
-    rest,
-    ap (λ (l : List ℕ). text ++ l) is ∙ sym (append_assoc text some rest),
-    Appends-trans old held new text some flushes.1 writes,
+    (
+      text ++ some,
+      rest,
+      ap (λ (l : List ℕ). text ++ l) is ∙ sym (append_assoc text some rest),
+      Appends-trans old held new text some flushes.1 writes,
+    ),
   )
 
 -- given the laws of a backend

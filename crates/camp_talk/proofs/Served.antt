@@ -17,7 +17,7 @@ use Rattle.camp_talk.specs.declared.engine.groups.GroupLimits.{GroupLimits}
 abbrev Bytes : Type 0
 Bytes = Vec ℕ Global
 
-service_of : Step Bytes Bytes → Service
+abbrev service_of : Step Bytes Bytes → Service
 service_of step = record { request = step.request.items; frame = step.bytes; answer = step.response.items }
 
 -- parts of the services of steps are pieces of the steps
