@@ -1,6 +1,6 @@
 use Rattle.std.proofs.Common.{refl}
 use Rattle.camp_talk.proofs.Growing.{command_grows}
-use Rattle.camp_kept_talk.proofs.conversations.StoredConversationBackend.execute.Goals as goal
+use Rattle.camp_kept_talk.proofs.conversations.StoredConversationBackendCommandResponse.execute.Goals as goal
 
 pub returns : goal.returns
 returns g c = (
