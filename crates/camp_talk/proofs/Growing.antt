@@ -20,7 +20,7 @@ tells_grow before other text now reports = earlier_same before.history now repor
 responds_grow : (before : SessionState) (lines : List (List ℕ)) (what : Result ParsedCommand LineFault) (response : Response) (now : Entries) (diagnostic : Diagnostic)
     → RespondsTo before lines what response now diagnostic → IsEarlier before.history now
 responds_grow before lines what (Done text) now diagnostic responds = tells_grow before what text.items now responds.0.0
-responds_grow before lines what (Failed why text) now diagnostic responds = earlier_same before.history now responds.2.1
+responds_grow before lines what (Failed why text) now diagnostic responds = earlier_same before.history now responds.2
 responds_grow before lines what OutOfMemory now diagnostic responds = earlier_same before.history now responds.0
 
 -- the response to a command, whatever it was parsed to

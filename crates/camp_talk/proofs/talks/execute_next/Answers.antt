@@ -1,4 +1,4 @@
-use Rattle.camp_talk.proofs.Words.{◌≡◌, ◌+◌, ℕ, List, length, true, Ok, first_of, is_silent, is_skipped, words_of, ap, subst, ◌∙◌, arith, rules, Gives, lines_of, SessionState, as_read, length-map, parsed_lines}
+use Rattle.camp_talk.proofs.Words.{◌≡◌, ◌+◌, ℕ, List, length, true, Ok, first_of, is_silent, is_skipped, words_of, ap, subst, sym, ◌∙◌, arith, rules, Gives, lines_of, ReadsNone, SessionState, as_read, length-map, parsed_lines}
 use Rattle.camp_talk.proofs.Firsts.{command_left, command_read}
 use Rattle.camp_talk.proofs.StepLemmas.{reads_none, reads_too_much}
 use Rattle.camp_talk.specs.Engine.Commands.{IsReadAs}
@@ -29,19 +29,24 @@ returns-in-Err-clause-none g c =
     let before : SessionState = record { history = c.args.book.now; lines = c.args.lines; diagnostic = c.args.diagnostic.now } in
     search (rules, reads_none _ _ before _ c.in-Err.ensures.fault c.in-Err.ensures.within)
 
-pub returns-in_err-execute_command-clause-none : goal.returns-in_err-execute_command-clause-none
-returns-in_err-execute_command-clause-none g c =
-    let then = (goal.at.returns-in_err-execute_command-clause-none g c).After-execute_command in
+pub returns-in_err-response-clause-none : goal.returns-in_err-response-clause-none
+returns-in_err-response-clause-none g c =
+    let then = (goal.at.returns-in_err-response-clause-none g c).After-execute_command in
+    let before : SessionState = record { history = c.args.book.now; lines = c.args.lines; diagnostic = c.args.diagnostic.now } in
     let read = c.in-Ok.ensures.command in
     let whole = c.in-Ok.command.is_whole in
-    let none = reads_too_much _ _ _ read.command (command_read _ _ whole read.command read.reads) (command_left _ _ whole read.command read.reads)
-    (omega (arith, c.in_err-execute_command.ensures.executes.2, lines g then)) in
-    rw c.in_err-execute_command.ensures.executes.0 none
+    let many = reads_too_much _ _ before read.command (command_read _ _ whole read.command read.reads) (command_left _ _ whole read.command read.reads)
+    (omega (arith, c.in_err-response.ensures.executes.2, lines g then)) in
+    let none = subst (ReadsNone (g.R.Read.remaining c.args.reader.now) (g.R.Read.remaining c.read_command.new.reader) before)
+    (sym c.in_err-response.ensures.executes.0) many in
+    search (rules, none)
 
-pub returns-in_err-execute_command-clause-same : goal.returns-in_err-execute_command-clause-same
-returns-in_err-execute_command-clause-same g c =
-    let same = c.in_err-execute_command.ensures.executes.1 in
-    (ap (λ (s : SessionState). s.history) same, ap (λ (s : SessionState). s.diagnostic) same)
+pub returns-in_err-response-clause-same : goal.returns-in_err-response-clause-same
+returns-in_err-response-clause-same g c =
+    let same = c.in_err-response.ensures.executes.1 in
+    let book : c.execute_command.new.book ≡ c.args.book.now = ap (λ (s : SessionState). s.history) same in
+    let diagnostic : c.execute_command.new.diagnostic ≡ c.args.diagnostic.now = ap (λ (s : SessionState). s.diagnostic) same in
+    search (rules, book, diagnostic)
 
 pub returns-clause-executes_next : goal.returns-clause-executes_next
 returns-clause-executes_next g c =
@@ -50,6 +55,6 @@ returns-clause-executes_next g c =
     record {
       command = read.command;
       reads = read.reads;
-      says = c.in_ok-execute_command.ensures.responds read.command (read_as g then);
-      counts = omega (arith, c.in_ok-execute_command.ensures.counts, lines g then);
+      says = c.in_ok-response.ensures.responds read.command (read_as g then);
+      counts = omega (arith, c.in_ok-response.ensures.counts, lines g then);
     }

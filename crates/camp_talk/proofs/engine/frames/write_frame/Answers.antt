@@ -15,14 +15,16 @@ frame g c =
 pub returns-in_err-write_answer : goal.returns-in_err-write_answer
 returns-in_err-write_answer g c =
     let then = (goal.at.returns-in_err-write_answer g c).After-write_answer in
-    digits_fail c.as_bytes.result.now c.args.response.now _ (frame g then) (g.W.Write.contents c.args.writer.now) (g.W.Write.contents c.write_answer.new.writer)
-    c.in_err-write_answer.ensures.writes
+    let fails = digits_fail c.as_bytes.result.now c.args.response.now _ (frame g then) (g.W.Write.contents c.args.writer.now) (g.W.Write.contents c.write_answer.new.writer)
+    c.in_err-write_answer.ensures.writes in
+    search (rules, fails)
 
 pub returns-in_err-write_answer-2 : goal.returns-in_err-write_answer-2
 returns-in_err-write_answer-2 g c =
     let then = (goal.at.returns-in_err-write_answer-2 g c).After-write_answer in
-    line_end_fails c.as_bytes.result.now c.args.response.now _ (frame g then) (g.W.Write.contents c.args.writer.now) (g.W.Write.contents c.write_answer.new.writer)
-    (g.W.Write.contents c.write_answer-2.new.writer) c.in_ok-write_answer.ensures.writes c.in_err-write_answer-2.ensures.writes
+    let fails = line_end_fails c.as_bytes.result.now c.args.response.now _ (frame g then) (g.W.Write.contents c.args.writer.now) (g.W.Write.contents c.write_answer.new.writer)
+    (g.W.Write.contents c.write_answer-2.new.writer) c.in_ok-write_answer.ensures.writes c.in_err-write_answer-2.ensures.writes in
+    search (rules, fails)
 
 pub returns : goal.returns
 returns g c =

@@ -16,7 +16,7 @@ returns-in-Err g c =
 
 pub loop-preserved : goal.loop-preserved
 loop-preserved g c = elim c.match-halt-2.branch [
-  in-Pause w ↦ (
+  | in-Pause w ↦ (
     rw w.writer-is (run_goes_on g.B.Backend g.F.Framing c.args.limits c.args.backend.now c.args.framing.now (g.W.Write.contents c.args.writer.now) _ _ _ c.loop.invariant.0.0 _ _ _ _ _
         c.loop.counter c.loop.invariant.0.1 w.in-Pause.ensures c.in_default.field-0 c.in_default.ensures.flushes),
     c.in_default.ensures.empty,
