@@ -4,6 +4,6 @@ use Rattle.camp_kept_talk.proofs.conversations.StoredConversationBackendCommandR
 
 pub returns : goal.returns
 returns g c = (
-  record { same = refl; grows = command_grows _ _ c.execute_command.result _ c.execute_command.ensures.executes },
+  record { same = refl; grows = command_grows _ c.args.command c.execute_command.result _ c.execute_command.ensures.executes },
   c.execute_command.ensures.executes,
 )
