@@ -1,5 +1,5 @@
 mod LineLemmas
 mod MapLemmas
-mod ParseLemmas
+pub mod ParseLemmas
 mod TextLemmas
 mod TitleLemmas

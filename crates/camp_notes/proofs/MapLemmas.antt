@@ -1,12 +1,15 @@
 -- The map of notes that are taken one after the other.
 use Rattle.std.specs.Prelude.{T, cond}
 use Rattle.std.proofs.Common.{◌≡◌, ℕ, Bool, true, false, ◌&&◌, List, [], ◌∷◌, ◌++◌, map, refl, sym, ap, subst, ◌∙◌, Option, None, Some}
+use Rattle.std.proofs.lemmas.List.{map-append}
 use Rattle.std.specs.Ordering.{eq_by_cmp, is_eq, is_lt, nat_cmp}
 use Rattle.std.specs.declared.cmp.Ordering.TheVariants.{Less, Equal, Greater}
 use Rattle.std.specs.Cmp.Lexicographic.{nat_list_cmp_total, slice_cmp}
 use Rattle.std.specs.FinMap.{empty, entries, entries_sorted, get, get-empty, get-entries, get-insert, insert, nat_cmp-IsAntisymmetric, same_map, slice_cmp-IsAntisymmetric}
 use Rattle.std.specs.FinMap.Entries.{below_all, find, is_sorted}
+use Rattle.camp_notes.specs.Logs.{notes_placed}
 use Rattle.camp_notes.specs.Notes.{NoteTexts, note_of, notes_in, with_notes}
+use Rattle.camp_notes.specs.declared.logs.PlacedNote.{PlacedNote}
 use Rattle.camp_notes.specs.declared.notes.Note.{Note}
 
 -- an entry if it was found, else another
@@ -70,3 +73,9 @@ make_their_map texts =
 pub with_one_more : (m : NoteTexts) (notes : List Note) (note : Note) → insert (with_notes m notes) note.name note.text ≡ with_notes m (notes ++ note ∷ [])
 with_one_more m [] note = refl
 with_one_more m (n ∷ notes) note = with_one_more (insert m n.name n.text) notes note
+
+-- one more note of a log
+pub one_more_placed : (placed : List PlacedNote) (one : PlacedNote) → insert (with_notes empty (notes_placed placed)) one.note.name one.note.text ≡ with_notes empty (notes_placed (placed ++ one ∷ []))
+one_more_placed placed one =
+    with_one_more empty (notes_placed placed) one.note
+    ∙ ap (λ (l : List Note). with_notes empty l) (sym (map-append (λ (p : PlacedNote). p.note) placed (one ∷ [])))

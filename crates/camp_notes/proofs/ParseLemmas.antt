@@ -221,3 +221,18 @@ shorter rest note after begins =
     let some = length-append (title_line note.name) (signed_lines note.text) in
     let title = length-append (codes "#note ") (note.name ++ 10 ∷ []) in
     omega (arith, size, sum, some, title)
+
+-- ---- notes before a rest that is no comment
+
+-- notes and the rest after them are told by their text
+pub same_before : (notes others : List Note) (rest more : List ℕ) → AllByRecursion CanBeNote notes → AllByRecursion CanBeNote others → begins_comment rest ≡ false → begins_comment more ≡ false
+    → notes_text notes ++ rest ≡ notes_text others ++ more → (notes ≡ others) × (rest ≡ more)
+same_before [] others rest more can could none ends same = no_more [] rest others more others none refl same
+same_before (n ∷ ns) [] rest more can could none ends same =
+    absurd (false≢true (sym ends ∙ ap (λ (l : List ℕ). begins_comment l) (sym same)))
+same_before (n ∷ ns) (m ∷ ms) rest more can could none ends same =
+    let both =
+    same_note n m (notes_text ns ++ rest) (notes_text ms ++ more) can.0 could.0 (no_lines_left ns rest none) (no_lines_left ms more ends)
+    (sym (append_assoc (note_text n) (notes_text ns) rest) ∙ same ∙ append_assoc (note_text m) (notes_text ms) more) in
+    let others_are = same_before ns ms rest more can.1 could.1 none ends both.1 in
+    (ap (λ (x : Note). x ∷ ns) both.0 ∙ ap (λ (l : List Note). m ∷ l) others_are.0, others_are.1)

@@ -3,6 +3,7 @@
 
 mod faults;
 mod laws;
+mod logs;
 mod notes;
 mod parsing;
 mod rendering;
@@ -10,6 +11,7 @@ mod titles;
 
 pub use faults::{NoteFault, NoteFaultKind};
 pub use laws::{notes_make_their_map, texts_tell_notes};
+pub use logs::{NoteLog, PlacedNote};
 pub use notes::{Note, NoteText, Notes};
 pub use parsing::{parse_notes, split_notes};
 pub use rendering::{note_text, notes_text};

@@ -1,5 +1,7 @@
 //! Rendering notes.
-ghost use Rattle.std.specs.Prelude.{◌≡◌, ◌++◌, IfOk, OnOk};
+ghost use Rattle.std.specs.Prelude.{◌≡◌, ◌++◌, IfOk, IsTrue, OnOk};
+ghost use Rattle.camp_base.specs.Bytes.{is_name};
+ghost use Rattle.camp_notes.specs.Notes.{CanBeNote};
 ghost use Rattle.camp_notes.specs.Texts.{note_text, notes_text, signed_byte, signed_bytes, title_line};
 
 use crate::{Note, NoteText};
@@ -9,6 +11,7 @@ use std::alloc::{AllocError, Global};
 /// Renders a note.
 pub fn note_text(alloc: Global, note: &Note) -> Result<Vec<u8>, AllocError>
     ensures exact { IfOk result (λ text. text.items ≡ note_text note.now) }
+    ensures can { IfOk result (λ _. CanBeNote note.now) }
 {
     let mut text = Vec::new(alloc);
     append_note(&mut text, &note.name, &note.text)?;
@@ -32,7 +35,8 @@ pub(crate) fn append_note(
     name: &Name,
     note: &NoteText,
 ) -> Result<(), AllocError>
-    ensures { OnOk result (text.new.items ≡ text.old.items ++ note_text (record { name = name.now; text = note.now })) }
+    ensures text { OnOk result (text.new.items ≡ text.old.items ++ note_text (record { name = name.now; text = note.now })) }
+    ensures can { OnOk result (CanBeNote (record { name = name.now; text = note.now })) }
 {
     append_title(text, name)?;
     text.extend_from_slice(b"#+")?;
@@ -42,7 +46,8 @@ pub(crate) fn append_note(
 
 // Appends the first line of a note.
 fn append_title(text: &mut Vec<u8>, name: &Name) -> Result<(), AllocError>
-    ensures { OnOk result (text.new.items ≡ text.old.items ++ title_line name.now) }
+    ensures text { OnOk result (text.new.items ≡ text.old.items ++ title_line name.now) }
+    ensures form { OnOk result (IsTrue (is_name name.now)) }
 {
     text.extend_from_slice(b"#note ")?;
     text.extend_from_slice(name.bytes())?;
