@@ -16,7 +16,7 @@ GROUPS = [
     ("many threads", "#fff8c5", "#9a6700", "object row history clients head run member entries shared shared_session"),
     ("patches", "#ddf4ff", "#0969da", "share base prim seq ctx catch branch notation"),
     ("repository", "#dafbe1", "#1a7f37", "call repo questions why"),
-    ("texts", "#fbefff", "#8250df", "script notes git diff coding stream import commits talk options"),
+    ("texts", "#fbefff", "#8250df", "script notes git diff coding stream import commits transfer talk options"),
     ("storage", "#ffebe9", "#cf222e", "store kept kept_talk"),
     ("programs", "#f6f8fa", "#57606a", "camp c shell uses worked"),
 ]

@@ -1,0 +1,2 @@
+-- Definitions that only private functions use.
+pub mod Reading
