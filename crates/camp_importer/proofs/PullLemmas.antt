@@ -27,7 +27,7 @@ use Rattle.camp_importer.specs.Steps.{ArePulled, CopiesFirst, GathersFrom, HasPa
 use Rattle.camp_importer.specs.declared.faults.Reason.{Reason}
 use Rattle.camp_importer.specs.declared.faults.Reason.TheVariants as reason
 
-differ : (from to : List ℕ) → bytes_eq from to ≡ false → from ≢ to
+pub differ : (from to : List ℕ) → bytes_eq from to ≡ false → from ≢ to
 differ from to e = λ same. true≢false (sym (name_itself from) ∙ ap (bytes_eq from) same ∙ e)
 
 -- what is had, or wanted and brought
@@ -361,6 +361,7 @@ joins first others branch pulled old started new starts pulls =
     let gathered = pulls.gathers starts.catches starts.becomes in
     record {
       only = continues_through branch old started new starts.only pulls.only;
+      is_new = starts.is_new;
       ours = starts.catches;
       was = starts.was;
       gathers = record {

@@ -23,7 +23,7 @@ mod trees;
 pub use faults::{ImportFault, Reason};
 pub use histories::import_commits;
 pub use importing::{Imported, import_commit};
-pub use laws::imported_commits_are_held;
+pub use laws::{imported_commits_are_held, imports_only_add};
 pub use moments::{Moments, find_moments};
 pub use places::Place;
 pub use planning::plan_places;
