@@ -9,6 +9,7 @@ import os
 import random
 import shutil
 import tempfile
+import time
 from concurrent.futures import ThreadPoolExecutor
 
 from tests.harness import programs
@@ -18,8 +19,8 @@ from tests.harness.paths import TOP, read, write
 SECONDS, GATE = 60, "never"
 EXPORT = ["fast-export", "--show-original-ids", "--signed-tags=strip", "--tag-of-filtered-object=drop", "--reencode=no", "--use-done-feature"]
 LIMITS = ["--limits", "catches=1000000,branches=65536"]
-# How many cuts of the stream of a random repository are tried.
-CUTS = 6
+# How many cuts of the stream of a repository, and kills of an import, are tried.
+CUTS, KILLS = 6, 2
 
 
 def run(report, words):
@@ -77,17 +78,22 @@ class Import:
         return found
 
     def try_all(self, has_cuts):
+        started = time.monotonic()
         done = self.bring("whole", self.stream)
+        seconds = time.monotonic() - started
         if done.returncode:
             return self.report.fail(f"{self.name}: status {done.returncode}, {done.stderr[-300:]!r}")
         self.compare("whole")
         self.bring_again("whole")
-        self.send_back("whole")
+        if b"--export-all" in programs.run([self.program, "--help"]).stdout:
+            self.send_back("whole")
         self.bring_new()
         if has_cuts:
             chance = random.Random(self.name)
             for at in sorted(chance.randrange(20, len(self.stream) - 5) for _ in range(CUTS)):
                 self.bring_cut(at)
+            for number in range(KILLS):
+                self.bring_killed(f"killed-{number}", chance.random() * seconds)
 
     def compare(self, store):
         """The tree and the commits of each branch are those of the reference."""
@@ -166,6 +172,21 @@ class Import:
             return self.report.fail(f"{self.name}: after a cut at {at}: {done.stderr[-300:]!r}")
         self.compare(store)
         self.report.count("cuts")
+
+
+    def bring_killed(self, store, seconds):
+        """An import that is killed leaves a store to which the next one brings the rest."""
+        with open(f"{self.folder}/stream", "wb") as file:
+            file.write(self.stream)
+        killed = programs.start([self.program, "--store", f"{self.folder}/{store}", *LIMITS, "--import", f"{self.folder}/stream"])
+        time.sleep(seconds)
+        killed.kill()
+        killed.communicate()
+        done = self.bring(store, self.stream)
+        if done.returncode:
+            return self.report.fail(f"{self.name}: after a kill: {done.stderr[-300:]!r}")
+        self.compare(store)
+        self.report.count("kills")
 
 
 def commits_by_id(repository, form):

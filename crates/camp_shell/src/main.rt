@@ -10,6 +10,7 @@
 //! reads the output any more.
 #![tactic(auto)]
 
+mod imports;
 mod prompts;
 mod stops;
 mod stores;
@@ -22,6 +23,7 @@ use camp_talk::{
     Book, Conversation, FrameFault, FramedConversation, Limits, State, TalkFault, load, new_book,
     talk,
 };
+use imports::import_into;
 use prompts::Prompted;
 use std::fs::{self, File};
 use std::io::{BufReader, IsTerminal, Read};
@@ -50,6 +52,9 @@ fn hold<'a>(rt: &HostRuntime, words: &'a [String]) -> Result<(), Stop<'a>> {
     let wish = wish_of(rt.alloc(), words).map_err(WordsFault::from)?;
     if let Some(store) = wish.checked {
         return check_store(rt, store);
+    }
+    if let (Some(store), Some(source)) = (wish.store, wish.import) {
+        return import_into(rt, store, source, limits_of(&wish)?, &wish);
     }
     if let Some(store) = wish.store {
         return hold_stored(rt, store, limits_of(&wish)?, &wish);

@@ -107,9 +107,9 @@ impl<D: Disk, R: BufRead, W: Write> Dialogue for PromptedStore<D, R, W> {
     }
 }
 
-// Opens a store, and reports the length of its torn tail. If the file is not a store, the log next to it belongs to
+/// Opens a store, and reports the length of its torn tail. If the file is not a store, the log next to it belongs to
 // another program and is kept, unless the opening made it.
-fn open_store<'a>(
+pub(crate) fn open_store<'a>(
     rt: &HostRuntime,
     store: &'a str,
     wanted: Option<Limits>,
