@@ -1,6 +1,6 @@
 //! The value of an open handle.
-ghost use Rattle.std.specs.Prelude.{◌≡◌, Some, length};
-ghost use Rattle.camp_c.specs.Handles.{answer_of, answer_of_view, text_of_member};
+ghost use Rattle.std.specs.Prelude.{◌≡◌, None, Some, length};
+ghost use Rattle.camp_c.specs.Handles.{answer_of, answer_of_view, repository_in, text_of_member, view_in};
 
 use camp_shared_session::SharedSession;
 use camp_talk::{Session, View};
@@ -27,7 +27,8 @@ impl OpenObject {
     /// Sets `at` to the first byte of the answer of a repository, and returns the number of bytes. If the value is no
     /// repository, `at` is unchanged.
     pub(crate) fn lend_answer(&self, at: &mut *const u8) -> usize
-        ensures { result ≡ length (answer_of (Some self.now)) }
+        ensures length { result ≡ length (answer_of (Some self.now)) }
+        ensures unlent { repository_in (Some self.now) ≡ None → at.new ≡ at.old }
     {
         match self {
             OpenObject::Session(session) => session.lend_answer(at),
@@ -48,7 +49,8 @@ impl OpenObject {
     /// Sets `at` to the first byte of the answer of a view, and returns the number of bytes. If the value is no view,
     /// `at` is unchanged.
     pub(crate) fn lend_answer_of_view(&self, at: &mut *const u8) -> usize
-        ensures { result ≡ length (answer_of_view (Some self.now)) }
+        ensures length { result ≡ length (answer_of_view (Some self.now)) }
+        ensures unlent { view_in (Some self.now) ≡ None → at.new ≡ at.old }
     {
         match self {
             OpenObject::View(view) => view.lend_answer(at),

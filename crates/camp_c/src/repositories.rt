@@ -112,7 +112,7 @@ pub extern "C" fn camp_answer(alloc: Global, handle: &mut Handle, buffer: &mut [
 pub extern "C" fn camp_lend_answer(alloc: Global, handle: &mut Handle, at: &mut *const u8) -> usize
     ensures same { handle.new.keeper.held ≡ handle.old.keeper.held }
     ensures length { result ≡ length (answer_of handle.old.keeper.held) }
-    ensures closed { handle.old.keeper.held ≡ None → at.new ≡ at.old }
+    ensures unlent { repository_in handle.old.keeper.held ≡ None → at.new ≡ at.old }
 {
     let Some(object) = handle.take(alloc) else {
         return 0;

@@ -1,6 +1,6 @@
 //! Views: each has the state that a repository had at one moment, and answers only questions.
 ghost use Rattle.std.specs.Prelude.{◌≡◌, ◌++◌, None, length, take, drop, min, IfOk, IsOkAnd};
-ghost use Rattle.camp_c.specs.Handles.{OnView, OpensClosed, OpensFrom, OpensView, OpensViewAgain, SeesOne, answer_of_view};
+ghost use Rattle.camp_c.specs.Handles.{OnView, OpensClosed, OpensFrom, OpensView, OpensViewAgain, SeesOne, answer_of_view, view_in};
 ghost use Rattle.camp_c.specs.Inside.{Shows};
 ghost use Rattle.camp_c.specs.declared.objects.OpenObject.TheVariants.{View as OfView};
 
@@ -107,7 +107,7 @@ pub extern "C" fn camp_lend_view_answer(
 ) -> usize
     ensures same { view.new.keeper.held ≡ view.old.keeper.held }
     ensures length { result ≡ length (answer_of_view view.old.keeper.held) }
-    ensures closed { view.old.keeper.held ≡ None → at.new ≡ at.old }
+    ensures unlent { view_in view.old.keeper.held ≡ None → at.new ≡ at.old }
 {
     let Some(object) = view.take(alloc) else {
         return 0;
