@@ -3,3 +3,4 @@ pub mod Laws
 pub mod Promises
 pub mod Serving
 pub mod Stopping
+pub mod Waiting

@@ -5,6 +5,7 @@ ghost use Rattle.camp_kept.specs.Accepting.{StoreContents};
 ghost use Rattle.camp_kept.specs.Persisting.{disk_in, may_commit};
 ghost use Rattle.camp_kept_talk.specs.Buffering.{AfterFlush, AfterStep, BuffersAnswers, WritesAllOrNone, WritesNone, write_as_memory};
 ghost use Rattle.camp_kept_talk.specs.Stopping.{CountsStored, StaysStopped, stopped_fault};
+ghost use Rattle.camp_kept_talk.specs.Waiting.{may_wait};
 ghost use Rattle.camp_talk.specs.Diagnostics.{no_diagnostic};
 ghost use Rattle.camp_talk.specs.Answers.{SessionState};
 ghost use Rattle.camp_talk.specs.Talks.{HasGrown, ReadsWithin};
@@ -67,8 +68,12 @@ pub fn take_stored_step<D: Disk, R: BufRead, W: Write>(
     // At most one command is read. If the calls can't be persisted, all buffered answers are written, or none.
     ensures within { ReadsWithin (R.remaining reader.old) (R.remaining reader.new) }
     ensures whole { IfErr result (WritesAllOrNone buffered.old.answers.items (W.contents writer.old) (W.contents writer.new)) }
-    // If no command is ready, all buffered answers are written before the step waits for one.
-    ensures flushes { is_ready ≡ false → IfOk result (λ more. more ≡ true → Appends (W.contents writer.old) (W.contents writer.new) buffered.old.answers.items) }
+    // If no command is ready, or 256 calls wait or a mebibyte of answers, all buffered answers are written before the
+    // step reads one; else none, unless the input ends.
+    ensures flushes { may_wait is_ready kept.old buffered.old.answers.items ≡ false
+        → IfOk result (λ more. more ≡ true → Appends (W.contents writer.old) (W.contents writer.new) buffered.old.answers.items) }
+    ensures waits { may_wait is_ready kept.old buffered.old.answers.items ≡ true
+        → IfOk result (λ more. more ≡ true → W.contents writer.new ≡ W.contents writer.old) }
     // If a commit has failed at the disk before, nothing is written.
     ensures stopped { may_commit kept.old ≡ false → StaysStopped kept.old kept.new writer.old writer.new
         × MatchResult result (λ more. more ≡ true) (λ why. why ≡ stopped_fault) }
@@ -96,7 +101,8 @@ fn flush_first<D: Disk, W: Write>(
     ensures whole { MatchResult result
         (λ _. Appends (W.contents writer.old) (W.contents writer.new) buffered.old.answers.items ⊎ Keeps (W.contents writer.old) (W.contents writer.new))
         (WritesAllOrNone buffered.old.answers.items (W.contents writer.old) (W.contents writer.new)) }
-    ensures flushes { is_ready ≡ false → OnOk result (Appends (W.contents writer.old) (W.contents writer.new) buffered.old.answers.items) }
+    ensures flushes { may_wait is_ready kept.old buffered.old.answers.items ≡ false → OnOk result (Appends (W.contents writer.old) (W.contents writer.new) buffered.old.answers.items) }
+    ensures waits { may_wait is_ready kept.old buffered.old.answers.items ≡ true → OnOk result (W.contents writer.new ≡ W.contents writer.old) }
     ensures stopped { may_commit kept.old ≡ false → (kept.new ≡ kept.old) × (writer.new ≡ writer.old) × IfErr result (λ why. why ≡ stopped_fault) }
     ensures faults { CountsStored result (D.Disk.faults (disk_in kept.old)) (D.Disk.faults (disk_in kept.new)) }
     ensures clean { D.Disk.is_clean (disk_in kept.new) ≡ D.Disk.is_clean (disk_in kept.old) }
@@ -107,9 +113,9 @@ fn flush_first<D: Disk, W: Write>(
     commit_and_flush(alloc, kept, &mut buffered.answers, writer)
 }
 
-// True if the buffered answers may wait: a command is ready, and little is buffered.
+// True if the buffered answers may wait: a command is ready, few calls wait, and little is buffered.
 fn may_wait<D: Disk>(kept: &DurableRepository<D>, buffered: &AnswerBuffer, is_ready: bool) -> bool
-    ensures { is_ready ≡ false → result ≡ false }
+    ensures exact { result ≡ may_wait is_ready kept.now buffered.now.answers.items }
 {
     is_ready && kept.waiting() < MAX_CALLS && buffered.answers.len() < MAX_ANSWERS
 }
