@@ -275,6 +275,7 @@ def prove(progress, when_proved):
 
 def lanes():
     """The environment of `rt ci`. It reckons with twice the memory that a crate takes, so that camp_talk, for which others wait, would wait
-    for smaller ones to end: where memory is there, it is told to prove as many crates side by side as there are processors."""
-    has_room = free_memory() > ROOM * programs.JOBS
-    return {**os.environ, **({"RT_JOBS": str(programs.JOBS)} if has_room else {})}
+    for smaller ones to end: where memory is there, it is told how many crates to prove side by side, and leaves a processor of several to
+    the tests."""
+    most = max(2, programs.JOBS - 1)
+    return {**os.environ, **({"RT_JOBS": str(most)} if free_memory() > ROOM * most else {})}
