@@ -62,7 +62,7 @@ module _ {State Call Reply : Type 0} (object : Sequential State Call Reply) wher
       (entries : List (Tagged Call)) (at index : ℕ) (old new : Reading State Call) (entry : Tagged Call)
       → IsRestoredFrom object entries at old → RestoresEntry object index old entry new → IsRestoredFrom object (entries ++ entry ∷ []) (index + 1) new
 
-  -- a reader that was restored from a snapshot of a log, and goes on at the end of that log, has read the log
+  -- a reader that was restored from a snapshot of a log, and continues at the end of that log, has read the log
   abbrev pub SnapshotStandsForLog : Type 0
   SnapshotStandsForLog =
       (log : List (Option (Tagged Call))) (entries : List (Tagged Call)) (reading : Reading State Call)

@@ -1,4 +1,4 @@
--- Snapshots of a log: entries from which a reader goes on without the others.
+-- Snapshots of a log: entries from which a reader continues without the others.
 use Rattle.std.specs.Prelude.{◌≡◌, ◌≢◌, ◌<◌, ◌≤◌, ◌+◌, ◌⊎◌, ℕ, true, false, List, [], ◌∷◌, Option, None, Some, Result, Ok, Err, IfSome, IsSome}
 use Rattle.std.specs.List.{flat_map}
 use Rattle.camp_object.specs.Objects.{Sequential}
@@ -40,7 +40,7 @@ module _ {State Call Reply : Type 0} (object : Sequential State Call Reply) wher
     pub history : accepted_after object [] (flat_map seated_calls entries) ≡ lawful_part object log
     pub last : (seat : ℕ) → last_number 0 (of_seat seat entries) ≡ last_of (counted_entries log) seat
 
-  -- a reader that was restored from these entries, and goes on at this index
+  -- a reader that was restored from these entries, and continues at this index
   pub record IsRestoredFrom (entries : List (Tagged Call)) (index : ℕ) (reading : Reading State Call) : Type 0 where
     pub at : reading.index ≡ index
     pub history : reading.history ≡ accepted_after object [] (flat_map seated_calls entries)

@@ -171,7 +171,7 @@ impl<State: Object> Reader<State> {
     }
 
     /// Restores what a snapshot of the log has at an index: an entry, or `None` if there is no entry there. Entries
-    /// before it may be missing, so its number may be any that is greater than the last of its seat. The reader goes on
+    /// before it may be missing, so its number may be any that is greater than the last of its seat. The reader continues
     /// after that index. After a fault the reader is unchanged.
     pub fn restore(
         &mut self,

@@ -1,4 +1,4 @@
-//! How a member goes on from a snapshot of its log.
+//! How a member continues from a snapshot of its log.
 ghost use Rattle.camp_object.specs.Objects.{begun};
 ghost use Rattle.camp_member.specs.Snapshots.{IsOfSeat, RestoresAt};
 ghost use Rattle.camp_member.specs.Telling.{MemberAdvances};
@@ -10,7 +10,7 @@ use std::alloc::Global;
 
 impl<State: Object> Member<State> {
     /// Restores what a snapshot of the log has at an index: an entry, or `None` if there is no entry there. Entries
-    /// before it may be missing. The member goes on after that index. An entry of its own seat is foreign, and so is all
+    /// before it may be missing. The member continues after that index. An entry of its own seat is foreign, and so is all
     /// after it has stopped. After a fault the member is unchanged.
     pub fn restore(
         &mut self,

@@ -91,7 +91,7 @@ RestoresTextsInOrder =
     → HasRestoredTexts title kept count old.reading → RestoresText old index text (Ok tt) new
     → HasRestoredTexts title (kept ++ text ∷ []) index new.reading
 
--- a member that was restored from a snapshot of some texts, and goes on after them, has read these texts
+-- a member that was restored from a snapshot of some texts, and continues after them, has read these texts
 abbrev pub SnapshotStandsForTexts : Type 0
 SnapshotStandsForTexts =
     (title : List ℕ) (texts kept : List (List ℕ)) (reading : Reading Contents (WithNote Call))

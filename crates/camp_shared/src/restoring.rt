@@ -1,4 +1,4 @@
-//! The texts of a snapshot of its log from which a member goes on.
+//! The texts of a snapshot of its log from which a member continues.
 ghost use Rattle.std.specs.Prelude.{◌+◌, ◌<◌, ◌≤◌, ◌^◌};
 ghost use Rattle.camp_member.specs.Telling.{MemberAdvances};
 ghost use Rattle.camp_shared.specs.Asking.{RestoresParsed, RestoresText};
@@ -12,7 +12,7 @@ use std::alloc::Global;
 
 impl SharedRepository {
     /// Restores the text that a snapshot of the log has at an index, in order; the title has index 0. Entries before it
-    /// may be missing. The member goes on after that index. A text that is no entry, or one of this seat, is foreign, and
+    /// may be missing. The member continues after that index. A text that is no entry, or one of this seat, is foreign, and
     /// so is all after the member has stopped. After a fault the member is unchanged.
     pub fn restore(&mut self, alloc: Global, index: usize, text: &[u8]) -> Result<(), ReadFault>
         ensures restores { RestoresText self.old index text.now result self.new }

@@ -117,7 +117,7 @@ impl SharedSession {
     }
 
     /// Restores the text that a snapshot of the log has at an index, in order; the title has index 0. Entries before it
-    /// may be missing. The member goes on after that index. A text that is no entry, or one of this seat, is foreign, and
+    /// may be missing. The member continues after that index. A text that is no entry, or one of this seat, is foreign, and
     /// so is all after the member has stopped. After a fault the member is unchanged.
     pub fn restore(&mut self, alloc: Global, index: usize, text: &[u8]) -> Result<(), ReadFault>
         ensures restores { RestoresText self.old.member index text.now result self.new.member }
