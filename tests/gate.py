@@ -29,11 +29,15 @@ GIVING_WAY, SHARING = 10, 5
 QUIET = 50
 # The most memory that a crate's proof was seen to take, in GB, with room for the tests beside it.
 ROOM = 5
+# Two crates of the longest chain, for whose end the whole gate waits: the first one needs hardly any crate outside of it.
+ON_THE_CHAIN = ("camp_questions", "camp_talk")
 # So many of the last lines of each part that failed are printed once more at the end.
 LAST_LINES = 40
 # What `rt ci` prints of a crate that is proved, and at its end.
 PROVED = re.compile(r"^rt: ([a-z_]+) (?:proved|is kept)")
 COUNTS = re.compile(r"^(\d+) passed, (\d+) failed$", re.M)
+# The folder of a crate in the gate's tree, or in the copy that `rt ci NAME` makes of it.
+IN_A_TREE = re.compile(r".*(?:/gate-\w+/tree|/rt-copy-[\w-]+/repo)/crates/(\w+)")
 
 
 class Progress:
@@ -66,10 +70,9 @@ class Progress:
         """Notes the processor seconds of what runs in the folders of the tree's crates: a check, which ends unseen."""
         for process in os.listdir("/proc") if self.tree else ():
             with contextlib.suppress(OSError, IndexError):
-                _, is_inside, folder = os.readlink(f"/proc/{process}/cwd").partition(f"{self.tree}/crates/")
-                if is_inside:
+                if found := IN_A_TREE.match(os.readlink(f"/proc/{process}/cwd")):
                     times = read(f"/proc/{process}/stat").rpartition(b")")[2].split()[11:13]
-                    self.proving[folder.split("/")[0], process] = sum(map(int, times)) / os.sysconf("SC_CLK_TCK")
+                    self.proving[found[1], process] = sum(map(int, times)) / os.sysconf("SC_CLK_TCK")
 
     def begin(self, name):
         with self.lock:
@@ -254,7 +257,10 @@ def keep_products(progress, text):
 def prove(progress, when_proved):
     """Runs `rt ci` on the tree, prints its lines, and takes over its counts. Whether it passed."""
     progress.begin("rt ci")
-    ran = programs.start(["rt", "ci"], cwd=progress.tree, env=lanes(), stdin=subprocess.DEVNULL, stderr=subprocess.STDOUT)
+    chain = threading.Thread(target=prove_chain, args=(progress,))
+    chain.start()
+    # Between crates of the chain others are proved, and give way to it.
+    ran = start_proofs(progress, ["nice", "-n", str(SHARING), "rt", "ci"], lanes())
     counts, lines = (0, 1), []
     for line in ran.stdout:
         text = line.decode(errors="replace").rstrip()
@@ -266,6 +272,7 @@ def prove(progress, when_proved):
             when_proved()
         counts = tuple(map(int, found.groups())) if found else counts
     status = ran.wait()
+    chain.join()
     passed, failed = counts
     if status:
         progress.failures.append(("rt ci", "\n".join(lines)))
@@ -273,9 +280,25 @@ def prove(progress, when_proved):
     return status == 0
 
 
+def prove_chain(progress):
+    """Proves the longest chain of crates first, each with all processors: `rt ci` of all crates takes over what is proved here, and while
+    it waits for that it proves others. What fails here fails there, too, which decides."""
+    for name in ON_THE_CHAIN:
+        ran = start_proofs(progress, ["rt", "ci", name], os.environ)
+        for line in ran.stdout:
+            text = line.decode(errors="replace").rstrip()
+            if not COUNTS.match(text):
+                progress.tell(text)
+        ran.wait()
+
+
+def start_proofs(progress, words, environment):
+    return programs.start(words, cwd=progress.tree, env=environment, stdin=subprocess.DEVNULL, stderr=subprocess.STDOUT)
+
+
 def lanes():
-    """The environment of `rt ci`. It reckons with twice the memory that a crate takes, so that camp_talk, for which others wait, would wait
-    for smaller ones to end: where memory is there, it is told how many crates to prove side by side, and leaves a processor of several to
-    the tests."""
+    """The environment of `rt ci` of all crates. It reckons with twice the memory that a crate takes, so that a large one, for which others
+    wait, would wait for smaller ones to end: where memory is there, it is told how many crates to prove side by side, and leaves a
+    processor of several to the tests."""
     most = max(2, programs.JOBS - 1)
     return {**os.environ, **({"RT_JOBS": str(most)} if free_memory() > ROOM * most else {})}

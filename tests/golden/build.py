@@ -16,7 +16,7 @@ from tests.harness.paths import TOP, read_text, write_text
 SECONDS, GATE = 10, "beside"
 CRATES = "camp_base:\ncamp: camp_base\ncamp_shell: camp_base\ncamp_c staticlib: camp_base\nworked: camp_base\n"
 # Proves the crates of crates.txt, but for the one that UNPROVED names, and notes in the file `proofs` that it does; a crate is kept where
-# KEPT has it.
+# KEPT has it. Of a run over one crate nothing is kept.
 KIT = """#!/bin/bash
 case $1 in version) echo kit; exit ;; doc) echo "$(dirname "$0")/page"; exit ;; esac
 if [ "$1" = lib ]; then
@@ -25,6 +25,7 @@ if [ "$1" = lib ]; then
     mkdir -p out && cp "$(dirname "$0")/libcamp_c.a" out/ && echo "rt: camp_c proved"
     exit
 fi
+if [ $# -gt 1 ]; then echo "1 passed, 0 failed"; exit; fi
 echo >>"$(dirname "$0")/proofs"
 status=0
 for crate in $(sed 's/[: ].*//' crates.txt); do
