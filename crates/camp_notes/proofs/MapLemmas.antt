@@ -7,8 +7,11 @@ use Rattle.std.specs.declared.cmp.Ordering.TheVariants.{Less, Equal, Greater}
 use Rattle.std.specs.Cmp.Lexicographic.{nat_list_cmp_total, slice_cmp}
 use Rattle.std.specs.FinMap.{empty, entries, entries_sorted, get, get-empty, get-entries, get-insert, insert, nat_cmp-IsAntisymmetric, same_map, slice_cmp-IsAntisymmetric}
 use Rattle.std.specs.FinMap.Entries.{below_all, find, is_sorted}
+use Rattle.std.specs.List.{AllByRecursion}
+use Rattle.camp_notes.specs.Faults.{AreNotesOf}
 use Rattle.camp_notes.specs.Logs.{notes_placed}
-use Rattle.camp_notes.specs.Notes.{NoteTexts, note_of, notes_in, with_notes}
+use Rattle.camp_notes.specs.Notes.{CanBeNote, NoteTexts, note_of, notes_in, with_notes}
+use Rattle.camp_notes.specs.Texts.{notes_text}
 use Rattle.camp_notes.specs.declared.logs.PlacedNote.{PlacedNote}
 use Rattle.camp_notes.specs.declared.notes.Note.{Note}
 
@@ -68,6 +71,11 @@ make_their_map texts =
     ∙ ap (λ (o : Option (List ℕ)). or_else (find (slice_cmp nat_cmp) name (entries texts)) o) (get-empty {X = List ℕ} (slice_cmp nat_cmp) name)
     ∙ or_none (find (slice_cmp nat_cmp) name (entries texts))
     ∙ sym (get-entries texts name))
+
+-- notes that are parsed from the text of a map make the map
+pub maps_back : (texts : NoteTexts) (notes : List Note) → AllByRecursion CanBeNote (notes_in texts) → AreNotesOf (notes_text (notes_in texts)) notes → with_notes empty notes ≡ texts
+maps_back texts notes can parsed =
+    ap (λ (l : List Note). with_notes empty l) (parsed.2 (notes_in texts) can refl) ∙ make_their_map texts
 
 -- one more note
 pub with_one_more : (m : NoteTexts) (notes : List Note) (note : Note) → insert (with_notes m notes) note.name note.text ≡ with_notes m (notes ++ note ∷ [])

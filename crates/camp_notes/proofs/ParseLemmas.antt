@@ -45,7 +45,7 @@ title_fails kind bytes fails = (
   λ note more can ends same. fails.1 note.name (signed_lines note.text ++ more) can.0 (same ∙ note_parts note more),
 )
 
--- what comes after the first line of a note
+-- what comes after the header line of a note
 lines_of_note : (bytes name lines : List ℕ) (note : Note) (more : List ℕ) → BeginsTitle bytes name lines → CanBeNote note → bytes ≡ note_text note ++ more → lines ≡ 35 ∷ 43 ∷ (signed_bytes note.text ++ 10 ∷ more)
 lines_of_note bytes name lines note more begins can same =
     (same_titles name note.name lines (signed_lines note.text ++ more) (name_line name begins.named) (name_line note.name can.0) (sym begins.is ∙ same ∙ note_parts note more)).1
@@ -135,12 +135,14 @@ pub record RestOf (notes : List Note) (rest : List ℕ) (others : List Note) (mo
 pub record AreParsed (text : List ℕ) (notes : List Note) (rest : List ℕ) : Type 0 where
   pub can : AllByRecursion CanBeNote notes
   pub is : text ≡ notes_text notes ++ rest
+  pub whole : notes ≢ [] → begins_text_line rest ≡ false
   pub others : (others : List Note) (more : List ℕ) → AreNotesBefore text others more → RestOf notes rest others more
 
 pub none_parsed : (text : List ℕ) → AreParsed text [] text
 none_parsed text = record {
   can = tt;
   is = refl;
+  whole = λ some. absurd (some refl);
   others = λ others more before. record { after = others; can = before.can; is = refl; left = before.is };
 }
 
@@ -166,6 +168,7 @@ pub one_more : (text : List ℕ) (notes : List Note) (rest : List ℕ) (note : N
 one_more text notes rest note after parsed comment begins = record {
   can = push_can notes note parsed.can begins.can;
   is = parsed.is ∙ ap (λ (l : List ℕ). notes_text notes ++ l) begins.is ∙ sym (append_assoc (notes_text notes) (note_text note) after) ∙ ap (λ (l : List ℕ). l ++ after) (sym (push_text notes note));
+  whole = λ some. begins.ends;
   others = λ others more before. let left = parsed.others others more before in stepped notes rest note after others more left.after comment begins before.ends left.can left.is left.left;
 }
 
@@ -185,7 +188,7 @@ no_note_left rest more (m ∷ ms) comment ends can none same = none m (notes_tex
 
 pub faulty : (kind : NoteFaultKind) (text : List ℕ) (notes : List Note) (rest : List ℕ) → AreParsed text notes rest → begins_comment rest ≡ true → FailsNote rest kind → RefusesNotesBefore text (Line (feeds_in (notes_text notes) + 1) kind)
 faulty kind text notes rest parsed comment fails = (
-  record { before = notes; can = parsed.can; rest = rest; split = parsed.is; at = refl; wrong = fails.0 },
+  record { before = notes; can = parsed.can; rest = rest; split = parsed.is; whole = parsed.whole; at = refl; wrong = fails.0 },
   λ others more before. let left = parsed.others others more before in no_note_left rest more left.after comment before.ends left.can fails.1 left.left,
 )
 
@@ -203,7 +206,7 @@ notes_alone text notes rest found empty = (
 
 pub misplaced : (text : List ℕ) (notes : List Note) (rest : List ℕ) → AreOnlyNotesBefore text notes rest → 0 < length rest → RefusesNotes text (Line (feeds_in (notes_text notes) + 1) Misplaced)
 misplaced text notes rest found some = (
-  record { before = notes; can = found.0.can; rest = rest; split = found.0.is; at = refl; wrong = no_title rest found.0.ends },
+  record { before = notes; can = found.0.can; rest = rest; split = found.0.is; whole = λ some. no_signed rest found.0.ends; at = refl; wrong = no_title rest found.0.ends },
   λ others can is.
       let size = ap length (found.1 others [] (as_before text others can is)).1 in
       omega (arith, some, size),

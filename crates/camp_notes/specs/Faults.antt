@@ -1,5 +1,5 @@
 -- Why bytes are not the text of notes.
-use Rattle.std.specs.Prelude.{◌≡◌, ◌≢◌, ◌⊎◌, ◌<◌, ◌≤◌, ◌+◌, ◌==◌, not, ℕ, true, false, IsTrue, List, ◌++◌, codes, count_by, length}
+use Rattle.std.specs.Prelude.{◌≡◌, ◌≢◌, ◌⊎◌, ◌<◌, ◌≤◌, ◌+◌, ◌==◌, not, ℕ, true, false, IsTrue, List, [], ◌++◌, codes, count_by, length}
 use Rattle.std.specs.List.{AllByRecursion, list_all}
 use Rattle.camp_base.specs.Bytes.{is_name}
 use Rattle.camp_base.specs.Signs.{newline}
@@ -20,7 +20,7 @@ has_no_feed bytes = list_all (λ byte. not (byte == newline)) bytes ≡ true
 abbrev pub feeds_in : List ℕ → ℕ
 feeds_in bytes = count_by (λ byte. byte == newline) bytes
 
--- bytes begin with the first line of a note, whose name is none
+-- bytes begin with the header line of a note, whose name is none
 pub record HasBadName (bytes : List ℕ) : Type 0 where
   pub word : List ℕ
   pub more : List ℕ
@@ -28,7 +28,7 @@ pub record HasBadName (bytes : List ℕ) : Type 0 where
   pub one_line : has_no_feed word
   pub bad : is_name word ≡ false
 
--- bytes begin with the first line of a note, and a text with too many bytes
+-- bytes begin with the header line of a note, and a text with too many bytes
 pub record HasTooLong (bytes : List ℕ) : Type 0 where
   pub name : List ℕ
   pub text : List ℕ
@@ -37,13 +37,13 @@ pub record HasTooLong (bytes : List ℕ) : Type 0 where
   pub named : IsTrue (is_name name)
   pub long : longest_note < length text
 
--- bytes end within the first line of a note
+-- bytes end within the header line of a note
 pub record EndsInTitle (bytes : List ℕ) : Type 0 where
   pub rest : List ℕ
   pub is : bytes ≡ codes "#note " ++ rest
   pub one_line : has_no_feed rest
 
--- bytes begin with the first line of a note, and no line of a text follows
+-- bytes begin with the header line of a note, and no line of a text follows
 pub record HasNoLine (bytes : List ℕ) : Type 0 where
   pub name : List ℕ
   pub more : List ℕ
@@ -51,7 +51,7 @@ pub record HasNoLine (bytes : List ℕ) : Type 0 where
   pub named : IsTrue (is_name name)
   pub none : begins_text_line more ≡ false
 
--- bytes begin with the first line of a note, and end within a line of its text, which is not too long
+-- bytes begin with the header line of a note, and end within a line of its text, which is not too long
 pub record EndsInLine (bytes : List ℕ) : Type 0 where
   pub name : List ℕ
   pub text : List ℕ
@@ -59,7 +59,7 @@ pub record EndsInLine (bytes : List ℕ) : Type 0 where
   pub is : bytes ≡ title_line name ++ (codes "#+" ++ signed_bytes text)
   pub named : IsTrue (is_name name)
 
--- why no note begins here. Misplaced: the first line is not that of a note. BadName: it names no patch. TooLong: the text
+-- why no note begins here. Misplaced: the first line is no header line. BadName: it names no patch. TooLong: the text
 -- has too many bytes. NotEnded: the last line has no line feed, or there is no line after the first.
 abbrev pub BeginNoNote : NoteFaultKind → List ℕ → Type 0
 BeginNoNote Misplaced bytes = begins_title bytes ≡ false
@@ -73,6 +73,8 @@ pub record IsFaultyAt (bytes : List ℕ) (line : ℕ) (kind : NoteFaultKind) : T
   pub can : AllByRecursion CanBeNote before
   pub rest : List ℕ
   pub split : bytes ≡ notes_text before ++ rest
+  -- the notes before are whole: no further line of the last one follows
+  pub whole : before ≢ [] → begins_text_line rest ≡ false
   pub at : line ≡ feeds_in (notes_text before) + 1
   pub wrong : BeginNoNote kind rest
 

@@ -10,19 +10,19 @@ use Rattle.camp_notes.specs.declared.faults.NoteFaultKind.{NoteFaultKind}
 use Rattle.camp_notes.specs.declared.faults.NoteFaultKind.TheVariants.{BadName, Misplaced, NotEnded, TooLong}
 use Rattle.camp_notes.specs.declared.notes.Note.{Note}
 
--- bytes are the first line of the note of this name, and the rest
+-- bytes are the header line of the note of this name, and the rest
 pub record BeginsTitle (bytes name rest : List ℕ) : Type 0 where
   pub named : IsTrue (is_name name)
   pub is : bytes ≡ title_line name ++ rest
 
--- why bytes do not begin with the first line of a note
+-- why bytes do not begin with the header line of a note
 abbrev pub BeginNoTitle : NoteFaultKind → List ℕ → Type 0
 BeginNoTitle Misplaced bytes = begins_title bytes ≡ false
 BeginNoTitle BadName bytes = HasBadName bytes
 BeginNoTitle TooLong bytes = ⊥
 BeginNoTitle NotEnded bytes = EndsInTitle bytes
 
--- bytes do not begin with the first line of a note, for this reason
+-- bytes do not begin with the header line of a note, for this reason
 abbrev pub FailsTitle : List ℕ → NoteFaultKind → Type 0
 FailsTitle bytes kind = BeginNoTitle kind bytes × ((name more : List ℕ) → IsTrue (is_name name) → bytes ≢ title_line name ++ more)
 

@@ -2,6 +2,7 @@
 use Rattle.std.specs.Prelude.{◌≡◌, List}
 use Rattle.std.specs.List.{AllByRecursion}
 use Rattle.std.specs.FinMap.{empty}
+use Rattle.camp_notes.specs.Faults.{AreNotesOf}
 use Rattle.camp_notes.specs.Notes.{CanBeNote, NoteTexts, notes_in, with_notes}
 use Rattle.camp_notes.specs.Texts.{notes_text}
 use Rattle.camp_notes.specs.declared.notes.Note.{Note}
@@ -15,3 +16,9 @@ TextsTellNotes =
 -- the notes of a map, taken one after the other, make the map
 abbrev pub NotesMakeTheirMap : Type 0
 NotesMakeTheirMap = (texts : NoteTexts) → with_notes empty (notes_in texts) ≡ texts
+
+-- notes that are parsed from the text of a map make the map
+abbrev pub MapsComeBack : Type 0
+MapsComeBack =
+    (texts : NoteTexts) (notes : List Note) → AllByRecursion CanBeNote (notes_in texts)
+    → AreNotesOf (notes_text (notes_in texts)) notes → with_notes empty notes ≡ texts

@@ -16,7 +16,7 @@ signed_bytes text = flat_map signed_byte text
 abbrev pub signed_lines : List ℕ → List ℕ
 signed_lines text = codes "#+" ++ signed_bytes text ++ newline ∷ []
 
--- the first line of a note
+-- the header line of a note
 abbrev pub title_line : List ℕ → List ℕ
 title_line name = codes "#note " ++ name ++ newline ∷ []
 
@@ -28,7 +28,7 @@ note_text note = title_line note.name ++ signed_lines note.text
 abbrev pub notes_text : List Note → List ℕ
 notes_text notes = flat_map note_text notes
 
--- whether bytes begin with the first line of a note
+-- whether bytes begin with the header line of a note
 abbrev pub begins_title : List ℕ → Bool
 begins_title bytes = bytes_eq (take 6 bytes) (codes "#note ")
 

@@ -8,14 +8,15 @@ use thiserror::Error;
 /// Why no note begins at a line.
 #[derive(Clone, Copy, PartialEq, Eq, Debug, Error)]
 pub enum NoteFaultKind {
-    /// The line is not the first of a note.
+    /// The line is not the header line of a note.
     #[error("misplaced note")]
     Misplaced,
     #[error("bad name")]
     BadName,
     #[error("note too long")]
     TooLong,
-    /// A line has no line feed, or no line of a text follows the first line.
+    /// A line has no line feed, or no line of a text follows the header line. After a whole line of a text, `#` without a
+    /// line feed is misplaced, not unended.
     #[error("note not ended")]
     NotEnded,
 }

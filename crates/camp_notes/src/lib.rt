@@ -10,7 +10,7 @@ mod rendering;
 mod titles;
 
 pub use faults::{NoteFault, NoteFaultKind};
-pub use laws::{notes_make_their_map, texts_tell_notes};
+pub use laws::{maps_come_back, notes_make_their_map, texts_tell_notes};
 pub use logs::{NoteLog, PlacedNote};
 pub use notes::{Note, NoteText, Notes};
 pub use parsing::{parse_notes, split_notes};

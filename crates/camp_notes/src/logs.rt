@@ -62,7 +62,8 @@ impl NoteLog {
         &self.texts
     }
 
-    /// Adds a note after this number of calls. If memory runs out, nothing changes.
+    /// Adds a note after this number of calls, which is whatever the caller says. If memory runs out, nothing changes, and
+    /// the given note is dropped.
     pub fn push(&mut self, at: usize, note: Note) -> Result<(), AllocError>
         ensures exact { OnOk result (self.new ≡ self.old ++ record { at = at; note = note } ∷ []) }
         ensures same { OnErr result (self.new ≡ self.old) }

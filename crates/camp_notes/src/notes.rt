@@ -1,9 +1,10 @@
 //! Notes as values.
 ghost use Rattle.std.specs.Prelude.{◌≡◌, ◌≤◌, ◌<◌, ◌==◌, IfOk, MatchOption, None, OnErr, OnOk, Some, length};
 ghost use Rattle.std.specs.FinMap as map;
+ghost use Rattle.std.specs.List.{AllByRecursion};
 ghost use Rattle.std.specs.Map.Iter.{ShowsInOrder, deref};
 ghost use Rattle.camp_notes.specs.Limits.{longest_note};
-ghost use Rattle.camp_notes.specs.Notes.{notes_in, with_notes};
+ghost use Rattle.camp_notes.specs.Notes.{CanBeNote, notes_in, with_notes};
 ghost use Rattle.camp_notes.specs.Texts.{notes_text};
 
 use crate::MAX_NOTE_LENGTH;
@@ -137,7 +138,8 @@ impl Notes {
         self.texts.iter()
     }
 
-    /// Sets the note of a patch. If memory runs out, nothing changes.
+    /// Sets the note of a patch; an empty text is a note, and nothing removes one. If memory runs out, nothing changes, and
+    /// the given note is dropped.
     pub fn insert(&mut self, note: Note) -> Result<(), AllocError>
         ensures exact { OnOk result (self.new ≡ map.insert self.old note.name note.text) }
         ensures same { OnErr result (self.new ≡ self.old) }
@@ -160,6 +162,7 @@ impl Notes {
     /// Renders the notes in the order of their names.
     pub fn to_text(&self, alloc: Global) -> Result<Vec<u8>, AllocError>
         ensures exact { IfOk result (λ text. text.items ≡ notes_text (notes_in self.now)) }
+        ensures can { IfOk result (λ _. AllByRecursion CanBeNote (notes_in self.now)) }
     {
         let mut text = Vec::new(alloc);
         for (name, note) in self.iter() {

@@ -1,5 +1,6 @@
 //! Rendering notes.
 ghost use Rattle.std.specs.Prelude.{◌≡◌, ◌++◌, IfOk, IsTrue, OnOk};
+ghost use Rattle.std.specs.List.{AllByRecursion};
 ghost use Rattle.camp_base.specs.Bytes.{is_name};
 ghost use Rattle.camp_notes.specs.Notes.{CanBeNote};
 ghost use Rattle.camp_notes.specs.Texts.{note_text, notes_text, signed_byte, signed_bytes, title_line};
@@ -21,6 +22,7 @@ pub fn note_text(alloc: Global, note: &Note) -> Result<Vec<u8>, AllocError>
 /// Renders notes, one after the other.
 pub fn notes_text(alloc: Global, notes: &[Note]) -> Result<Vec<u8>, AllocError>
     ensures exact { IfOk result (λ text. text.items ≡ notes_text notes.now) }
+    ensures can { IfOk result (λ _. AllByRecursion CanBeNote notes.now) }
 {
     let mut text = Vec::new(alloc);
     for note in notes {
@@ -44,7 +46,7 @@ pub(crate) fn append_note(
     Ok(text.push(b'\n')?)
 }
 
-// Appends the first line of a note.
+// Appends the header line of a note.
 fn append_title(text: &mut Vec<u8>, name: &Name) -> Result<(), AllocError>
     ensures text { OnOk result (text.new.items ≡ text.old.items ++ title_line name.now) }
     ensures form { OnOk result (IsTrue (is_name name.now)) }

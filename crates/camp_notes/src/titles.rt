@@ -1,4 +1,4 @@
-//! The first lines of notes.
+//! The header lines of notes.
 ghost use Rattle.std.specs.Prelude.{◌≡◌, ◌++◌, ◌∷◌, MatchOption, MatchResult, codes};
 ghost use Rattle.camp_base.specs.Signs.{newline};
 ghost use Rattle.camp_notes.specs.Faults.{has_no_feed};
@@ -7,10 +7,10 @@ ghost use Rattle.camp_notes.specs.Inside.{BeginsTitle, FailsTitle};
 use crate::NoteFaultKind;
 use camp_base::Name;
 
-/// What begins the first line of a note.
+/// What begins the header line of a note.
 const SIGN: &[u8] = b"#note ";
 
-/// Parses the first line of a note. Returns the name, and the bytes after the line.
+/// Parses the header line of a note. Returns the name, and the bytes after the line.
 #[tactic(auto, using(crate::proofs::TitleLemmas::misplaced_title, crate::proofs::TitleLemmas::after_note_sign))]
 pub(crate) fn parse_title(bytes: &[u8]) -> Result<(Name, &[u8]), NoteFaultKind>
     ensures { MatchResult result (λ found. BeginsTitle bytes.now found.0 found.1.now) (FailsTitle bytes.now) }
