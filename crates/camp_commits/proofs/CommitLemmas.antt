@@ -32,13 +32,13 @@ tree_fails objects commit resolution changes (apply.Fault why) resolved makes = 
     by_fault fault.UnknownParent is = is
     by_fault fault.UnsetReference is = is
     by_fault (fault.Change wrong) is = is
-    by_fault (fault.Entry wrong) is = record { resolution = resolution; changes = changes; resolved = resolved; gives = is }
+    by_fault (fault.Entry wrong) is = (is.0, record { resolution = resolution; changes = changes; resolved = resolved; gives = is.1 })
 
 -- camp can't store the tree after some change
 pub cannot_store : (old : Files) (changes : List EntryChange) (wrong : EntryFault) (why : ApplyError) → GivesTree old changes (Err wrong) → IsTreeError wrong why → MakesTree old changes (Err why)
 cannot_store old changes wrong apply.Memory gives is = tt
 cannot_store old changes wrong (apply.Fault why) gives is =
-    subst (λ (f : CommandFault). MakesTree old changes (Err (apply.Fault f))) (sym is) gives
+    subst (λ (f : CommandFault). MakesTree old changes (Err (apply.Fault f))) (sym is.0) (is.1, gives)
 
 -- a step that makes no commit
 pub steps_without : (reading : Result Objects CommandFault) (after : Result Objects ApplyError) → ResolvesTo (λ (new : Objects). new) after reading → StepsWithoutCommit reading (without_commit after)

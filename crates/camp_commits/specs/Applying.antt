@@ -1,8 +1,9 @@
 -- Commands of a stream applied: what each defines, and the commit that it makes with its tree.
-use Rattle.std.specs.Prelude.{◌≡◌, ◌⊎◌, ℕ, List, map, Option, None, Some, Result, Ok, Err, MatchOption}
+use Rattle.std.specs.Prelude.{◌≡◌, ◌≢◌, ◌⊎◌, ℕ, List, map, Option, None, Some, Result, Ok, Err, MatchOption}
 use Rattle.std.specs.FinMap.{empty, get}
 use Rattle.camp_base.specs.Results.{◌>>=◌}
 use Rattle.camp_base.specs.Trees.{Files}
+use Rattle.camp_coding.specs.declared.trees.EncodeFault.TheVariants as encode
 use Rattle.camp_import.specs.CommitTrees.{GivesTree}
 use Rattle.camp_import.specs.declared.commit_trees.EntryFault.{EntryFault}
 use Rattle.camp_import.specs.declared.entry_changes.EntryChange.{EntryChange}
@@ -80,7 +81,7 @@ pub record CannotMakeTree (objects : Objects) (commit : CommitValue) (fault : En
   pub resolved : ResolvesChanges objects commit resolution changes
   pub gives : GivesTree (tree_of_commit objects.trees resolution.first) changes (Err fault)
 
--- a fault of the tree, and not of the texts
+-- a fault of the tree, and not of the texts; out of memory is none
 abbrev pub IsFaultOfTree : Objects → CommitValue → CommandFault → Type 0
 IsFaultOfTree objects commit fault.LongMark = ⊥
 IsFaultOfTree objects commit fault.NoId = ⊥
@@ -89,7 +90,7 @@ IsFaultOfTree objects commit fault.BadReference = ⊥
 IsFaultOfTree objects commit fault.UnknownParent = ⊥
 IsFaultOfTree objects commit fault.UnsetReference = ⊥
 IsFaultOfTree objects commit (fault.Change wrong) = ⊥
-IsFaultOfTree objects commit (fault.Entry wrong) = CannotMakeTree objects commit wrong
+IsFaultOfTree objects commit (fault.Entry wrong) = (wrong.why ≢ encode.Memory) × CannotMakeTree objects commit wrong
 
 -- an error: out of memory, the first fault of the texts, or a tree that camp can't store
 abbrev pub FailsToCommit : Objects → CommitValue → ApplyError → Type 0

@@ -1,6 +1,7 @@
 -- The tree of a commit, given its changes; and the values that its texts give.
-use Rattle.std.specs.Prelude.{◌≡◌, List, map, None, Result, Ok, Err}
+use Rattle.std.specs.Prelude.{◌≡◌, ◌≢◌, List, map, None, Result, Ok, Err}
 use Rattle.camp_base.specs.Trees.{Files}
+use Rattle.camp_coding.specs.declared.trees.EncodeFault.TheVariants as encode
 use Rattle.camp_import.specs.CommitTrees.{GivesTree}
 use Rattle.camp_import.specs.declared.commit_trees.ChangedTree.{ChangedTree}
 use Rattle.camp_import.specs.declared.commit_trees.EntryFault.{EntryFault}
@@ -26,10 +27,10 @@ value_of_resolved commit =
       changes = map value_of_entry commit.changes.items;
     }
 
--- out of memory, or the fault itself
+-- out of memory, or the fault itself if it is another
 abbrev pub IsTreeError : EntryFault → ApplyError → Type 0
 IsTreeError wrong apply.Memory = Unit {0}
-IsTreeError wrong (apply.Fault why) = why ≡ fault.Entry wrong
+IsTreeError wrong (apply.Fault why) = (why ≡ fault.Entry wrong) × (wrong.why ≢ encode.Memory)
 
 -- camp can't store the tree after one of some changes
 abbrev pub CannotStore : Files → List EntryChange → CommandFault → Type 0
@@ -40,7 +41,7 @@ CannotStore old changes fault.BadReference = ⊥
 CannotStore old changes fault.UnknownParent = ⊥
 CannotStore old changes fault.UnsetReference = ⊥
 CannotStore old changes (fault.Change wrong) = ⊥
-CannotStore old changes (fault.Entry wrong) = GivesTree old changes (Err wrong)
+CannotStore old changes (fault.Entry wrong) = (wrong.why ≢ encode.Memory) × GivesTree old changes (Err wrong)
 
 -- the tree after some changes, or why there is none
 abbrev pub MakesTree : Files → List EntryChange → Result ChangedTree ApplyError → Type 0
