@@ -111,7 +111,7 @@ module _ {State Call Reply : Type 0} (object : Sequential State Call Reply) wher
   pub restores_fault : (old new : Membership State Call Reply) (index : ℕ) (found : Option (Tagged Call)) (why : ReadFault) → IsRestoreFault old.reading index found why → new ≡ old → RestoresAt object old index found (Err why) new
   restores_fault old new index found Memory is same = same
   restores_fault old new index found (OutOfOrder next) is same = (is.0, is.1, same)
-  restores_fault old new index found (Foreign at) is same = (is.0, same, inr (inr is.1))
+  restores_fault old new index found (Foreign at) is same = (is.0, same, inr (inr (is.1, is.2)))
 
   -- more was read after it
   pub restores_grow : (old new : Reading State Call) (index : ℕ) (found : Option (Tagged Call)) → IfSome found (λ entry. RestoresEntry object index old entry new) → IsSome found → IsBeginning old.history new.history

@@ -26,11 +26,11 @@ abbrev pub IsOfSeat : {Call : Type 0} → ℕ → Option (Tagged Call) → Type 
 IsOfSeat seat None = ⊥
 IsOfSeat seat (Some entry) = entry.seat ≡ seat
 
--- why nothing was restored at this index
+-- why nothing was restored at this index: out of memory, the index was read, or what was found there can't follow
 abbrev pub IsRestoreFault : {State Call : Type 0} → Reading State Call → ℕ → Option (Tagged Call) → ReadFault → Type 0
 IsRestoreFault old index found Memory = Unit {0}
 IsRestoreFault old index found (OutOfOrder next) = (next ≡ old.index) × (index < next)
-IsRestoreFault old index found (Foreign at) = (at ≡ index) × ¬ (CanFollow (number_in old.numbers) found)
+IsRestoreFault old index found (Foreign at) = (at ≡ index) × (old.index ≤ index) × ¬ (CanFollow (number_in old.numbers) found)
 
 module _ {State Call Reply : Type 0} (object : Sequential State Call Reply) where
   -- these entries are a snapshot of a log: their calls give its history, and the last numbers of their seats are those
@@ -68,4 +68,4 @@ module _ {State Call Reply : Type 0} (object : Sequential State Call Reply) wher
   RestoresAt old index found (Err (OutOfOrder next)) new = (next ≡ old.reading.index) × (index < next) × (new ≡ old)
   RestoresAt old index found (Err (Foreign at)) new =
       (at ≡ index) × (new ≡ old)
-      × ((old.is_stopped ≡ true) ⊎ IsOfSeat old.seat found ⊎ ¬ (CanFollow (number_in old.reading.numbers) found))
+      × ((old.is_stopped ≡ true) ⊎ IsOfSeat old.seat found ⊎ ((old.reading.index ≤ index) × ¬ (CanFollow (number_in old.reading.numbers) found)))

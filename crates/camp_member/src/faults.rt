@@ -13,7 +13,8 @@ pub enum ReadFault {
     /// Another entry comes next: the one at this index.
     #[error("the next entry is the one at index {index}")]
     OutOfOrder { index: usize },
-    /// At this index there is no entry of a member, or its number is not the next one of its seat.
+    /// At this index there is no entry of a member, or its number is not the next one of its seat. For `restore`: its
+    /// number is not greater than the last one of its seat, or it is of the member's own seat, or the member has stopped.
     #[error("no entry of a member stands at index {index}")]
     Foreign { index: usize },
 }

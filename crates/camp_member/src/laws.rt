@@ -23,8 +23,8 @@ pub fn readers_share_one_history<State: Object>()
     ensures law { (first : State) → ReadersShareOneHistory (begun State.object first) }
 {}
 
-/// A reader that was restored from a snapshot of a log has read that log, so all that holds of readers holds of it. The
-/// entries of a log that count are a snapshot of it.
+/// A reader that was restored from a snapshot of a log, and continues at the end of that log, has read that log, so all
+/// that holds of readers holds of it. The entries of a log that count are a snapshot of it.
 pub fn snapshots_stand_for_the_log<State: Object>()
     ensures starts { (first : State) → NothingIsRestored (begun State.object first) }
     ensures goes_on { (first : State) → RestoresOn (begun State.object first) }

@@ -12,6 +12,10 @@ impl<State: Object> Member<State> {
     /// Restores what a snapshot of the log has at an index: an entry, or `None` if there is no entry there. Entries
     /// before it may be missing. The member continues after that index. An entry of its own seat is foreign, and so is all
     /// after it has stopped. After a fault the member is unchanged.
+    ///
+    /// Only for a new member and a snapshot, as it accepts gaps; it does not check that the entries are a snapshot of the
+    /// log. Until the last one is restored, the member is at a history that no prefix of the log has: call nothing else.
+    /// After `Foreign` drop the member; after `Memory` restore the same entry again.
     pub fn restore(
         &mut self,
         alloc: Global,
