@@ -75,11 +75,11 @@ faulty_path (CommitCommand commit) why = option_and_then (λ index. option_and_t
 faulty_path other why = None
 
 -- the next command of a stream can't be applied: its fault, with the id of the commit and the path that it is about
-pub record FailsNext (objects : Objects) (rest : List ℕ) (why : CommandFault) (commit path : Option (List ℕ)) : Type 0 where
+pub record FailsNext (announced : Bool) (objects : Objects) (rest : List ℕ) (why : CommandFault) (commit path : Option (List ℕ)) : Type 0 where
   pub command : CommandValue
   pub left : List ℕ
   pub reads : command_at rest ≡ Ok (command, left)
-  pub other : command ≢ DoneCommand
+  pub whole : IsWhole announced command left
   pub applies : AppliesCommand objects command (Err (apply.Fault why))
   pub named : commit ≡ id_in_stream command
   pub about : path ≡ faulty_path command why
@@ -95,7 +95,7 @@ pub record IsLastCommand (rest : List ℕ) : Type 0 where
 abbrev pub StopsReading : (announced : Bool) (ended : Type 0) → Objects → (rest : List ℕ) → StopReason → (left : ℕ) → Type 0
 StopsReading announced ended objects rest (Malformed kind) left = (rest ≢ []) × (command_at rest ≡ Err (record { kind = kind; left = left }))
 StopsReading announced ended objects rest (Command why commit path) left =
-    (left ≡ length rest) × FailsNext objects rest why (text_value commit) (text_value path)
+    (left ≡ length rest) × FailsNext announced objects rest why (text_value commit) (text_value path)
 StopsReading announced ended objects rest Unfinished left =
     (announced ≡ true) × ((left ≡ 0) × (ended ⊎ IsLastCommand rest))
 

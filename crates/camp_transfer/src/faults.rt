@@ -18,7 +18,8 @@ pub enum StopReason<'a> {
         /// The path of the change that is wrong, as it is in the stream.
         path: Option<&'a [u8]>,
     },
-    /// The stream ends without the `done` that its first line announces, so its last command may be cut off.
+    /// The stream ends without the `done` that its first line announces, so its last command may be cut off. Bytes after
+    /// `done` are ignored.
     Unfinished,
 }
 

@@ -25,7 +25,8 @@ pub struct StreamCommits<'a> {
 /// Where the reading of a stream has ended.
 #[derive(Clone, Copy, Debug)]
 pub enum StreamEnd<'a> {
-    /// At the end of the stream, or at `done`.
+    /// At the end of the stream, or at `done`. Without `feature done` a stream that is cut off within the changes of its
+    /// last commit is whole, too.
     Whole,
     /// At the first fault.
     Stopped(StreamStop<'a>),
