@@ -1,12 +1,12 @@
 -- What a member of a log of texts restores.
-use Rattle.std.proofs.Common.{◌≡◌, ℕ, ◌+◌, ◌-◌, ◌<◌, ◌≤◌, ◌^◌, List, [], ◌∷◌, ◌++◌, length, map, Option, None, Some, Result, Ok, Err, refl, sym, ap, subst, ◌∙◌, arith}
+use Rattle.std.proofs.Common.{◌≡◌, ℕ, ◌+◌, ◌-◌, ◌<◌, ◌≤◌, ◌^◌, ◌⊎◌, true, List, [], ◌∷◌, ◌++◌, length, map, Option, None, Some, Result, Ok, Err, refl, sym, ap, subst, ◌∙◌, arith, inl, inr}
 use Rattle.std.proofs.lemmas.List.{map-append}
 use Rattle.camp_call.specs.declared.calls.Call.{Call}
 use Rattle.camp_entries.specs.Texts.{IsEntryOf}
-use Rattle.camp_member.specs.Entries.{Tagged}
+use Rattle.camp_member.specs.Entries.{Tagged, number_in}
 use Rattle.camp_member.specs.Notes.{WithNote}
 use Rattle.camp_member.specs.Readings.{IsReadingOf, Reading}
-use Rattle.camp_member.specs.Snapshots.{IsRestoredFrom, IsSnapshotOf, RestoresAt}
+use Rattle.camp_member.specs.Snapshots.{CanFollow, IsOfSeat, IsRestoredFrom, IsSnapshotOf, RestoresAt}
 use Rattle.camp_member.specs.declared.faults.ReadFault.{ReadFault}
 use Rattle.camp_member.specs.declared.faults.ReadFault.TheVariants.{Foreign, Memory, OutOfOrder}
 use Rattle.camp_member.proofs.SnapshotLemmas.{nothing_is_restored, restores_on, snapshot_stands}
@@ -21,7 +21,13 @@ use Rattle.camp_shared.proofs.TextLemmas.{entries_len, entries_push}
 
 module _ (old new : Sharing) (index : ℕ) (found : Option (Tagged (WithNote Call))) (at : old.reading.index + 1 ≤ index) where
   pub parsed_foreign : (place : ℕ) → RestoresAt (shared_from old.reading.first) old (index - 1) found (Err (Foreign place)) new → RestoresParsed old index found (Err (Foreign index)) new
-  parsed_foreign place is = (refl, is.1, is.2)
+  parsed_foreign place is = (refl, is.1, why is.2)
+    where
+      why : (old.is_stopped ≡ true) ⊎ IsOfSeat old.seat found ⊎ ((old.reading.index ≤ index - 1) × ¬ (CanFollow (number_in old.reading.numbers) found))
+          → (old.is_stopped ≡ true) ⊎ IsOfSeat old.seat found ⊎ ¬ (CanFollow (number_in old.reading.numbers) found)
+      why (inl stopped) = inl stopped
+      why (inr (inl own)) = inr (inl own)
+      why (inr (inr cannot)) = inr (inr cannot.1)
 
   pub parsed_in_order : (next : ℕ) → RestoresAt (shared_from old.reading.first) old (index - 1) found (Err (OutOfOrder next)) new → ⊥
   parsed_in_order next is = let next_is = is.0 in let below = is.1 in omega (arith, at, next_is, below)

@@ -10,7 +10,8 @@ pub fn members_follow_the_texts()
     ensures stops { NobodyReadsOn }
 {}
 
-/// A member that was restored from a snapshot of a log has read that log, so all that holds of members holds of it.
+/// A member that was restored from a snapshot of a log, and continues at the end of that log, has read that log, so all
+/// that holds of members holds of it.
 pub fn snapshots_stand_for_the_texts()
     ensures opens { OpensRestored }
     ensures goes_on { RestoresTextsInOrder }

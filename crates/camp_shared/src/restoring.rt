@@ -14,6 +14,10 @@ impl SharedRepository {
     /// Restores the text that a snapshot of the log has at an index, in order; the title has index 0. Entries before it
     /// may be missing. The member continues after that index. A text that is no entry, or one of this seat, is foreign, and
     /// so is all after the member has stopped. After a fault the member is unchanged.
+    ///
+    /// Only for a new member and a snapshot, as it accepts gaps; it does not check that the texts are a snapshot of the
+    /// log. Until the last one is restored, the member is at a history that no prefix of the log has: call nothing else.
+    /// After `Foreign` drop the member; after `Memory` restore the same text again.
     pub fn restore(&mut self, alloc: Global, index: usize, text: &[u8]) -> Result<(), ReadFault>
         ensures restores { RestoresText self.old index text.now result self.new }
         ensures goes { MemberAdvances (shared_from self.old.reading.first) (λ _ _. ⊥) self.old self.new }
