@@ -1,5 +1,1 @@
-pub mod Answering
-pub mod Leading
-pub mod Serving
-pub mod Stopping
-pub mod Writing
+pub mod Promising

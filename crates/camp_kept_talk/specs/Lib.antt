@@ -1,5 +1,3 @@
-pub mod Buffering
+pub mod Conversations
+pub mod DurableLaws
 pub mod Laws
-pub mod Promises
-pub mod Serving
-pub mod Stopping

@@ -1,12 +1,19 @@
-//! The laws of requests over a durable repository.
-ghost use Rattle.camp_kept_talk.specs.Laws.{KeptRequestsAreServedInTurn};
+//! The laws of conversations over a durable repository.
+ghost use Rattle.camp_kept.specs.declared.repositories.DurableRepository.{DurableRepository as SpecRepository};
+ghost use Rattle.camp_kept_talk.specs.Laws.{StoresKeepPromises};
 
-use camp_kept::Disk;
+use camp_kept::{Disk, PersistenceFault};
+use camp_talk::{Backend, Framing};
 
-/// If requests are served one after the other over a durable repository, as by the steps of a
-/// [`FramedStore`](crate::FramedStore), the n-th answer that was written is that of the n-th request that was read,
-/// executed after the requests before it. Once a request was served, all calls that were accepted until then are
-/// durable, also those from before the first request.
-pub fn kept_requests_are_served_in_turn<D: Disk>()
-    ensures law { KeptRequestsAreServedInTurn D.Disk.seen D.Disk.may_leave }
+/// A conversation over a durable repository by which no commit is possible writes nothing, does not use the disk, and
+/// its fault is that of a commit. A disk fault is reported only if a disk call has failed. After a commit that has
+/// failed, whatever a crash leaves has each call that was answered.
+pub fn stores_keep_promises<
+    D: Disk,
+    Q,
+    A: Drop,
+    B: Backend<Q, A, CommitFault = PersistenceFault>,
+    F: Framing<Q, A>,
+>()
+    ensures law { (kept_of : B → SpecRepository D) → StoresKeepPromises D.Disk.seen D.Disk.may_leave D.Disk.faults D.Disk.is_clean B.Backend F.Framing kept_of }
 {}

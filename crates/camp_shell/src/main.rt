@@ -10,7 +10,7 @@
 //! reads the output any more.
 #![tactic(auto)]
 
-mod prompts;
+mod conversations;
 mod stops;
 mod stores;
 mod words;
@@ -18,13 +18,10 @@ mod words;
 use camp_base::Name;
 use camp_git::export;
 use camp_options::{WordsFault, command_line, read_limits};
-use camp_talk::{
-    Book, Conversation, FrameFault, FramedConversation, Limits, State, TalkFault, load, new_book,
-    talk,
-};
-use prompts::Prompted;
+use camp_talk::{Book, Conversation, FramedConversation, Limits, State, TalkFault, load, new_book};
+use conversations::{Ending, ONE_BY_ONE, talk_in_frames, talk_in_lines};
 use std::fs::{self, File};
-use std::io::{BufReader, IsTerminal, Read};
+use std::io::{BufReader, Read};
 use std::process::ExitCode;
 use stops::Stop;
 use stores::{check_store, hold_stored};
@@ -83,35 +80,21 @@ fn loaded<'a>(
     Ok(book)
 }
 
-// Holds a conversation over a repository, with prompts at a terminal.
+// Holds a conversation over a repository in memory.
 fn converse<'a>(rt: &HostRuntime, book: Book<State>, form: Form) -> Result<(), Stop<'a>> {
-    match form_at(rt, form) {
-        Form::Lines => Ok(talk_in_lines(rt, book)?),
-        Form::Prompts => Ok(talk_at_prompts(rt, book)?),
-        Form::Frames => Ok(talk_in_frames(rt, book)?),
-    }
-}
-
-fn talk_in_lines(rt: &HostRuntime, book: Book<State>) -> Result<(), TalkFault> {
-    let reader = buffered(rt, rt.stdin())?;
-    talk(&mut Conversation::new(rt.alloc(), book, reader, rt.stdout()))
-}
-
-fn talk_at_prompts(rt: &HostRuntime, book: Book<State>) -> Result<(), TalkFault> {
-    let reader = buffered(rt, rt.stdin())?;
-    talk(&mut Prompted::new(rt.alloc(), book, reader, rt.stdout(), rt.stdout()))
-}
-
-fn talk_in_frames(rt: &HostRuntime, book: Book<State>) -> Result<(), FrameFault> {
-    let reader = buffered(rt, rt.stdin())?;
-    talk(&mut FramedConversation::new(rt.alloc(), book, reader, rt.stdout()))
-}
-
-// Returns the form that was asked for; but prompts in place of lines at a terminal.
-fn form_at(rt: &HostRuntime, wished: Form) -> Form {
-    match wished {
-        Form::Lines if rt.stdin().is_terminal() && rt.stdout().is_terminal() => Form::Prompts,
-        form => form,
+    let ended = match form {
+        Form::Frames => talk_in_frames(rt, &mut FramedConversation::new(rt.alloc(), book)),
+        _ => talk_in_lines(
+            rt,
+            &mut Conversation::new(rt.alloc(), book),
+            ONE_BY_ONE,
+            form,
+        ),
+    };
+    match ended {
+        Ok(()) => Ok(()),
+        Err(Ending::Commit(fault)) => Err(Stop::Talk(fault)),
+        Err(Ending::Talk(fault)) => Err(Stop::Frame(fault)),
     }
 }
 

@@ -1,19 +1,17 @@
 //! Repositories that are persisted in files.
-ghost use Rattle.std.specs.Prelude.{◌-◌, ◌^◌};
 
-use crate::prompts::Prompting;
+use crate::conversations::{Ending, GROUPED, talk_in_frames, talk_in_lines};
 use crate::stops::Stop;
 use crate::words::{Form, Wish};
-use crate::{buffered, export_branch, form_at, load_file};
+use crate::{export_branch, load_file};
 use camp_kept_talk::{
-    AnswerBuffer, Disk, DurableRepository, FramedStore, PersistenceFault, StoredFault, inspect,
-    take_stored_step, talk_kept,
+    DurableRepository, FramedStore, PersistenceFault, StoredConversation, inspect,
 };
-use camp_talk::{Dialogue, Limits, TalkFault, talk};
+use camp_talk::{Limits, TalkFault};
 use sqlite_std_file::{File, OpenError, Unknown, open};
 use std::alloc::{AllocError, Global};
 use std::fs;
-use std::io::{self, BufRead, ErrorKind, Read, Write};
+use std::io::{self, ErrorKind, Read};
 
 /// Opens a store, or creates it, with the wanted limits, and loads files into it. Then holds a conversation over it, or
 /// writes a branch for git.
@@ -33,77 +31,19 @@ pub(crate) fn hold_stored<'a>(
     if let Some(branch) = wish.export {
         return export_branch(rt, &kept.book, branch);
     }
-    match converse(rt, kept, wish.form) {
+    let ended = match wish.form {
+        Form::Frames => talk_in_frames(rt, &mut FramedStore::new(rt.alloc(), kept)),
+        form => talk_in_lines(
+            rt,
+            &mut StoredConversation::new(rt.alloc(), kept),
+            GROUPED,
+            form,
+        ),
+    };
+    match ended {
         Ok(()) => Ok(()),
-        Err(StoredFault::Commit(fault)) => Err(Stop::Store(store, fault)),
-        Err(StoredFault::Talk(fault)) => Err(Stop::Talk(fault)),
-        Err(StoredFault::Frame(fault)) => Err(Stop::Frame(fault)),
-        Err(StoredFault::Write(error)) => Err(Stop::Talk(TalkFault::Write(error))),
-    }
-}
-
-// Holds a conversation over a durable repository.
-fn converse(
-    rt: &HostRuntime,
-    kept: DurableRepository<File>,
-    form: Form,
-) -> Result<(), StoredFault> {
-    match form_at(rt, form) {
-        Form::Lines => talk_in_lines(rt, kept),
-        Form::Prompts => talk_at_prompts(rt, kept),
-        Form::Frames => talk_in_frames(rt, kept),
-    }
-}
-
-fn talk_in_lines(rt: &HostRuntime, mut kept: DurableRepository<File>) -> Result<(), StoredFault> {
-    let mut reader = buffered(rt, rt.stdin())?;
-    let mut writer = rt.stdout();
-    talk_kept(rt.alloc(), &mut kept, &mut reader, &mut writer)
-}
-
-fn talk_at_prompts(rt: &HostRuntime, kept: DurableRepository<File>) -> Result<(), StoredFault> {
-    let reader = buffered(rt, rt.stdin())?;
-    talk(&mut PromptedStore {
-        alloc: rt.alloc(),
-        kept,
-        buffered: AnswerBuffer::new(rt.alloc()),
-        reader: Prompting::new(rt.alloc(), reader, rt.stdout()),
-        writer: rt.stdout(),
-    })
-}
-
-fn talk_in_frames(rt: &HostRuntime, kept: DurableRepository<File>) -> Result<(), StoredFault> {
-    let reader = buffered(rt, rt.stdin())?;
-    talk(&mut FramedStore::new(rt.alloc(), kept, reader, rt.stdout()))
-}
-
-// Holds a conversation over a durable repository, with prompts.
-#[derive(Drop)]
-struct PromptedStore<D: Disk, R, W> {
-    alloc: Global,
-    kept: DurableRepository<D>,
-    buffered: AnswerBuffer,
-    reader: Prompting<R, W>,
-    writer: W,
-}
-
-impl<D: Disk, R: BufRead, W: Write> Dialogue for PromptedStore<D, R, W> {
-    type Fault = StoredFault;
-
-    ghost step_relation = { λ _ _ _. Unit {0} };
-
-    ghost left = { λ it. 2 ^ 64 - it.buffered.lines };
-
-    fn take_step(&mut self) -> Result<bool, StoredFault> {
-        self.reader.begin();
-        take_stored_step(
-            self.alloc,
-            &mut self.kept,
-            &mut self.buffered,
-            false,
-            &mut self.reader,
-            &mut self.writer,
-        )
+        Err(Ending::Commit(fault)) => Err(Stop::Store(store, fault)),
+        Err(Ending::Talk(fault)) => Err(Stop::Frame(fault)),
     }
 }
 

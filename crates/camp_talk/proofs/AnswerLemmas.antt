@@ -1,5 +1,5 @@
 -- Texts of answers to questions.
-use Rattle.camp_talk.proofs.Words.{◌≡◌, ◌∙◌, ℕ, List, Result, Ok, Err, Vec, ap, refl, subst, sym, RendersAnswer}
+use Rattle.camp_talk.proofs.Words.{◌≡◌, ℕ, List, Result, Ok, Err, Vec, ap, refl, subst, sym, RendersAnswer}
 use Rattle.camp_call.specs.declared.replies.Refusal.{Refusal}
 use Rattle.camp_questions.specs.Along.{AreAlong, ReportsAlong}
 use Rattle.camp_questions.specs.Answers.{AnswerOf, ReportsAnswer, ReportsAnswerOrMemory}

@@ -1,8 +1,8 @@
 -- The lines that are waited for, and the fault that is kept.
 use Rattle.std.proofs.lemmas.Bool.{and_from, and_left, and_right, not_from_false, not_from_true}
 use Rattle.std.specs.Prelude.{◌&&◌}
-use Rattle.camp_talk.proofs.Words.{◌≡◌, ◌∙◌, ℕ, Bool, true, false, true≢false, cond, List, Option, Some, not, ap, ◌==◌, ◌⊎◌, eqb-true, inl, inr, refl, sym, first_of, LineFault}
-use Rattle.camp_talk.specs.Diagnostics.{Diagnostic, FailedCommand, advanced, begins_command, cut_off, fault_diagnostic, fault_found, is_consequence, is_recovering, is_unknown, line_at, may_be, may_record, own_fault_diagnostic, recovery_of_line}
+use Rattle.camp_talk.proofs.Words.{◌≡◌, ◌∙◌, ℕ, Bool, true, false, true≢false, cond, List, Some, not, ap, ◌==◌, ◌⊎◌, eqb-true, inl, inr, refl, sym, first_of, LineFault}
+use Rattle.camp_talk.specs.Diagnostics.{Diagnostic, advanced, begins_command, cut_off, fault_diagnostic, fault_found, is_consequence, is_recovering, is_unknown, line_at, may_be, may_record, own_fault_diagnostic, recovery_of_line}
 use Rattle.camp_talk.specs.Laws.{FaultsAreDescribed, IsCutOff, IsLineOf, IsNextLine, IsOfItsOwn, RecoveryFollowsCutOff}
 use Rattle.camp_talk.specs.declared.recovery.Recovery.{Recovery}
 use Rattle.camp_talk.specs.declared.recovery.Recovery.TheVariants.{Nothing}

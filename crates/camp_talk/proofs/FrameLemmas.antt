@@ -1,12 +1,11 @@
 -- Frames of requests and of answers, piece by piece.
-use Rattle.camp_talk.proofs.Words.{◌==◌, ◌≡◌, ◌≢◌, ◌<◌, ◌≤◌, inl, inr, ℕ, Bool, true, false, cond, List, [], ◌∷◌, ◌++◌, length, take, drop, Option, None, Some, Err, refl, sym, ap, subst, ◌∙◌, append_assoc, arith, true≢false, take_all, length-append, length-take, All, All-cons, All-drop, All-head, All-nil, list_all, drop-append_seam, and_parts, Appends, Appends-trans, Consumes, Consumes-trans, append-nil, ◌-◌, lines_of, first_of, AppendsSome, Entries, IsLine, IsReading, IsWriting, StopsInLine, Takes}
+use Rattle.camp_talk.proofs.Words.{◌==◌, ◌≡◌, ◌≢◌, ◌<◌, ◌≤◌, inl, inr, ℕ, Bool, true, false, cond, List, [], ◌∷◌, ◌++◌, length, take, drop, Option, None, Some, refl, sym, ap, subst, ◌∙◌, append_assoc, arith, true≢false, take_all, length-append, length-take, All, All-cons, All-drop, All-head, All-nil, Appends, Appends-trans, AppendsSome, Err, Ok, Result, list_all, drop-append_seam, and_parts, Consumes, Consumes-trans, append-nil, ◌-◌, lines_of, first_of, IsLine, IsReading, StopsInLine, Takes}
 use Rattle.std.proofs.Common.{unwrap_or, ◌&&◌}
+use Rattle.std.specs.Prelude.{MatchResult}
 use Rattle.std.proofs.lemmas.Bool.{eqb-false}
 use Rattle.std.proofs.lemmas.Bool.Decides.{nat_tests}
-use Rattle.std.proofs.KnownBytes.{Appends-kept}
 use Rattle.std.proofs.lemmas.List.{nil_from_length}
 use Rattle.std.proofs.lemmas.Option.{none-some}
-use Rattle.std.specs.Io.KnownBytes.{Keeps}
 use Rattle.camp_base.specs.Signs.{is_between, is_digit}
 use Rattle.camp_script.specs.Words.{count_of, value_of}
 use Rattle.camp_talk.proofs.Cuts.{lines-line}
@@ -15,15 +14,14 @@ use Rattle.camp_talk.specs.Engine.Framings.{BeginsWithFrame}
 use Rattle.std.proofs.Common.{◌+◌, length-drop, length-take-le, take-append-drop}
 use Rattle.std.specs.List.{position_or_len}
 use Rattle.camp_talk.proofs.LineReads.{line_fed}
-use Rattle.camp_talk.specs.Frames.{AnswersNot, BeginsNoFrame, EndsWithin, HasNoFrame, IsFrame, IsNotCountable, ReadsCut, ReadsNoFrame, ReadsPart, Serves, WritesNot}
+use Rattle.camp_talk.specs.Frames.{BeginsNoFrame, EndsWithin, HasNoFrame, IsFrame, ReadsCut, ReadsNoFrame, ReadsPart}
 use Rattle.camp_talk.specs.Inside.Framing.{IsCounted, IsNotCounted, ReadsBytes, ReadsFewer, ReadsFrame, ReadsMore, ReadsNothing}
 use Rattle.camp_talk.specs.Laws.{UnservedBytesHaveNoFrame}
-use Rattle.camp_talk.specs.Requests.{IsUnanswered}
 use Rattle.camp_talk.specs.declared.faults.TalkFault.{TalkFault}
-use Rattle.camp_talk.specs.declared.faults.TalkFault.TheVariants.{Internal, Memory, Read, Write}
+use Rattle.camp_talk.specs.declared.faults.TalkFault.TheVariants.{Memory, Read}
 use Rattle.camp_talk.specs.declared.frames.FrameFault.{FrameFault}
 use Rattle.camp_talk.specs.declared.lines.Seen.TheVariants as seen
-use Rattle.camp_talk.specs.declared.frames.FrameFault.TheVariants.{Cut, NoNumber, Talk, TooLarge}
+use Rattle.camp_talk.specs.declared.frames.FrameFault.TheVariants.{NoNumber, Talk, TooLarge}
 
 -- ---- the line before a request
 
@@ -333,12 +331,12 @@ begins_frame bytes feed count at within counted fits = record {
 -- ---- writing
 
 module _ (a b : Option (List ℕ)) (text rest : List ℕ) where
-  pub fails_first : AppendsSome a b text → AppendsSome a b (text ++ rest)
+  fails_first : AppendsSome a b text → AppendsSome a b (text ++ rest)
   fails_first (done, left, is, appends) =
       (done, left ++ rest, ap (λ (bytes : List ℕ). bytes ++ rest) is ∙ append_assoc done left rest, appends)
 
 module _ (a b c : Option (List ℕ)) (front text : List ℕ) where
-  pub fails_behind : Appends a b front → AppendsSome b c text → AppendsSome a c (front ++ text)
+  fails_behind : Appends a b front → AppendsSome b c text → AppendsSome a c (front ++ text)
   fails_behind first (done, left, is, appends) = (
     front ++ done,
     left,
@@ -346,74 +344,19 @@ module _ (a b c : Option (List ℕ)) (front text : List ℕ) where
     Appends-trans a b c front done first appends,
   )
 
--- the number of bytes, the line feed or the bytes can't be written
-module _ (why : TalkFault) (digits answer text : List ℕ) (is : digits ++ 10 ∷ answer ≡ text) where
-  pub digits_fail : (a b : Option (List ℕ)) → IsWriting why × AppendsSome a b digits → IsWriting why × AppendsSome a b text
-  digits_fail a b (fails, some) = (fails, subst (AppendsSome a b) is (fails_first a b digits (10 ∷ answer) some))
+-- the number of bytes, the line feed and the bytes of a frame are written, as far as the writer does
+module _ (digits answer text : List ℕ) (is : digits ++ 10 ∷ answer ≡ text) (a b : Option (List ℕ)) where
+  pub digits_fail : AppendsSome a b digits → AppendsSome a b text
+  digits_fail some = subst (AppendsSome a b) is (fails_first a b digits (10 ∷ answer) some)
 
-  pub line_end_fails : (a b c : Option (List ℕ)) → Appends a b digits → IsWriting why × AppendsSome b c (10 ∷ [])
-      → IsWriting why × AppendsSome a c text
-  line_end_fails a b c first (fails, some) =
-      (fails, subst (AppendsSome a c) is (fails_behind a b c digits (10 ∷ answer) first (fails_first b c (10 ∷ []) answer some)))
+  pub line_end_fails : (c : Option (List ℕ)) → Appends a b digits → AppendsSome b c (10 ∷ []) → AppendsSome a c text
+  line_end_fails c first some =
+      subst (AppendsSome a c) is (fails_behind a b c digits (10 ∷ answer) first (fails_first b c (10 ∷ []) answer some))
 
-  pub bytes_fail : (a b c d : Option (List ℕ)) → Appends a b digits → Appends b c (10 ∷ []) → IsWriting why × AppendsSome c d answer
-      → IsWriting why × AppendsSome a d text
-  bytes_fail a b c d first second (fails, some) =
-      (fails, subst (AppendsSome a d) is (fails_behind a b d digits (10 ∷ answer) first (fails_behind b c d (10 ∷ []) answer second some)))
-
--- all is written, and can't be flushed
-pub flush_fails : (digits answer text : List ℕ) → digits ++ 10 ∷ answer ≡ text → (a b c d e : Option (List ℕ)) → Appends a b digits
-    → Appends b c (10 ∷ []) → Appends c d answer → Keeps d e → AppendsSome a e text
-flush_fails digits answer text is a b c d e first second third keeps = (
-  text,
-  [],
-  sym (append-nil text),
-  Appends-kept a d e text (subst (Appends a d) is
-      (Appends-trans a b d digits (10 ∷ answer) first (Appends-trans b c d (10 ∷ []) answer second third))) keeps,
-)
-
--- ---- the result of serving
-
--- each other fault leaves it open how many requests were served
-pub reading_is_counted : (a b : Option (List ℕ)) (served : ℕ) (why : FrameFault) → ReadsNoFrame a b why → IsNotCountable served why
-reading_is_counted a b served NoNumber reads = tt
-reading_is_counted a b served TooLarge reads = tt
-reading_is_counted a b served Cut reads = tt
-reading_is_counted a b served (Talk Memory) reads = tt
-reading_is_counted a b served (Talk (Read error)) reads = tt
-reading_is_counted a b served (Talk (Write error)) reads = tt
-reading_is_counted a b served (Talk Internal) reads = absurd reads
-
-pub answering_is_counted : (served : ℕ) (why : TalkFault) → IsUnanswered why → IsNotCountable served (Talk why)
-answering_is_counted served Memory is = tt
-answering_is_counted served (Read error) is = tt
-answering_is_counted served (Write error) is = tt
-answering_is_counted served Internal is = absurd is
-
-pub writing_is_counted : (served : ℕ) (why : TalkFault) → IsWriting why → IsNotCountable served (Talk why)
-writing_is_counted served Memory is = tt
-writing_is_counted served (Read error) is = tt
-writing_is_counted served (Write error) is = tt
-writing_is_counted served Internal is = absurd is
-
-module _ (a b old new : Option (List ℕ)) (before after : Entries) where
-  pub reading_stops : (why : FrameFault) → ReadsNoFrame a b why → Keeps old new → after ≡ before → Serves a b old new before (Err why) after
-  reading_stops NoNumber reads keeps same = record { reads = reads; keeps = keeps; same = same }
-  reading_stops TooLarge reads keeps same = record { reads = reads; keeps = keeps; same = same }
-  reading_stops Cut reads keeps same = record { reads = reads; keeps = keeps; same = same }
-  reading_stops (Talk Memory) reads keeps same = inl (record { reads = reads; keeps = keeps; same = same })
-  reading_stops (Talk (Read error)) reads keeps same = inl (record { reads = reads; keeps = keeps; same = same })
-  reading_stops (Talk (Write error)) reads keeps same = absurd reads
-  reading_stops (Talk Internal) reads keeps same = absurd reads
-
-  pub answering_stops : (why : TalkFault) → IsUnanswered why → AnswersNot a b old new before after
-      → Serves a b old new before (Err (Talk why)) after
-  answering_stops Memory is stops = inr stops
-  answering_stops (Read error) is stops = inr stops
-  answering_stops (Write error) is stops = absurd is
-  answering_stops Internal is stops = absurd is
-
-  pub writing_stops : (why : TalkFault) → IsWriting why → WritesNot a b old new before after
-      → Serves a b old new before (Err (Talk why)) after
-  writing_stops (Write error) is stops = stops
-  writing_stops other is stops = absurd is
+  pub frame_written : {E : Type 0} (c d : Option (List ℕ)) (result : Result (Unit {0}) E) → Appends a b digits → Appends b c (10 ∷ [])
+      → MatchResult result (λ done. Appends c d answer) (λ why. AppendsSome c d answer)
+      → MatchResult result (λ done. Appends a d text) (λ why. AppendsSome a d text)
+  frame_written c d (Ok done) first second third =
+      subst (Appends a d) is (Appends-trans a b d digits (10 ∷ answer) first (Appends-trans b c d (10 ∷ []) answer second third))
+  frame_written c d (Err why) first second some =
+      subst (AppendsSome a d) is (fails_behind a b d digits (10 ∷ answer) first (fails_behind b c d (10 ∷ []) answer second some))

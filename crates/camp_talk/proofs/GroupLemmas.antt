@@ -16,13 +16,13 @@ has_steps : {X : Type 0} (steps : List X) (count : ℕ) → length steps ≡ cou
 has_steps [] count counted = absurd (omega (arith, counted))
 has_steps (step ∷ steps) count counted = tt
 
-module _ {B F Q A E H : Type 0} (backend : backends.Ghosts B Q A E) (framing : framings.Ghosts F Q A H) (limits : GroupLimits) where
-  is_over : (why : Halt E H) (steps : List (Step Q A)) (fact : Type 0) → IsNoPause backend framing why → IfSteps steps fact → IsOver backend framing why steps fact
+module _ {B F Q A E C H : Type 0} (backend : backends.Ghosts B Q A E C) (framing : framings.Ghosts F Q A H) (limits : GroupLimits) where
+  is_over : (why : Halt A E H) (steps : List (Step Q A)) (fact : Type 0) → IsNoPause backend framing why → IfSteps steps fact → IsOver backend framing why steps fact
   is_over halt.Pause steps fact no_pause holds = absurd no_pause
   is_over halt.End steps fact no_pause holds = holds
   is_over (halt.Read why) steps fact no_pause holds = holds
   is_over (halt.Execute why) steps fact no_pause holds = holds
-  is_over halt.Memory steps fact no_pause holds = holds
+  is_over (halt.Unbuffered response) steps fact no_pause holds = holds
 
   follows_more : (before : B) (from : F) (pending : List ℕ) (steps : List (Step Q A)) (after : B) (to : F) (step : Step Q A) (last : B) (end : F)
       → ExecutesInOrder backend framing limits before from pending steps after to
@@ -79,7 +79,7 @@ module _ {B F Q A E H : Type 0} (backend : backends.Ghosts B Q A E) (framing : f
     )
 
     -- the group is over
-    pub gathers_over : (why : Halt E H) → TakesOne backend framing middle at text (Some why) after to new → RunsGroup backend framing limits before from why after to new
+    pub gathers_over : (why : Halt A E H) → TakesOne backend framing middle at text (Some why) after to new → RunsGroup backend framing limits before from why after to new
     gathers_over why (no_pause, halts, same) = subst (RunsGroup backend framing limits before from why after to) (sym same) (record {
       middle = middle;
       at = at;
@@ -92,3 +92,13 @@ module _ {B F Q A E H : Type 0} (backend : backends.Ghosts B Q A E) (framing : f
       → length gathered.steps ≡ count + 1 → RunsGroup backend framing limits before from halt.Pause after to text
   gathers_paused before from after to text count gathered counted =
       record { middle = after; at = to; gathered = gathered; halts = (refl, refl); is_over = has_steps gathered.steps count counted }
+
+  -- the response that was not buffered counts as one of the group
+  pub gathers_unbuffered : (before : B) (from : F) (response : A) (after : B) (to : F) (text : List ℕ)
+      → RunsGroup backend framing limits before from (halt.Unbuffered response) after to text
+      → RunsGroup backend framing limits before from halt.Pause after to (text ++ framing.renders response)
+  gathers_unbuffered before from response after to text runs =
+      let one = runs.halts in
+      let more = gathered_more before from runs.middle runs.at text runs.gathered runs.is_over after to (text ++ framing.renders response)
+      (length runs.gathered.steps) refl (record { request = one.request; bytes = one.bytes; response = response }, one.is, refl) in
+      gathers_paused before from after to (text ++ framing.renders response) (length runs.gathered.steps) more.0 more.1

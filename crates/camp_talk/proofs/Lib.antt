@@ -21,7 +21,6 @@ pub mod RunLemmas
 pub mod Served
 pub mod Skipped
 pub mod AnswerLemmas
-pub mod LeadsLemmas
 pub mod StepLemmas
 pub mod ViewLemmas
 pub mod VisibleLemmas

@@ -1,5 +1,5 @@
 -- Calls that are executed, and lines by their number.
-use Rattle.camp_talk.proofs.Words.{◌≡◌, zero, suc, true, List, [], ◌∷◌, drop, map, ℕ, Result, Ok, Err, Vec, refl, ap, sym, subst, true≢false, ◌∙◌, first_of, without_end, Call, Entries, reply_text, reports_failure}
+use Rattle.camp_talk.proofs.Words.{◌≡◌, zero, suc, List, [], ◌∷◌, drop, map, ℕ, Result, Ok, Err, Vec, refl, ap, sym, subst, true≢false, ◌∙◌, first_of, without_end, Call, Entries, reply_text, reports_failure}
 use Rattle.std.proofs.Common.{◌+◌, ◌++◌, Some, length, length-append, unwrap_or}
 use Rattle.std.specs.Global.{Global}
 use Rattle.std.specs.List.{slice_get}

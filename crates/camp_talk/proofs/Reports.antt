@@ -1,5 +1,5 @@
 -- The causes in a diagnostic.
-use Rattle.camp_talk.proofs.Words.{◌≡◌, Option, Some, ap, refl}
+use Rattle.camp_talk.proofs.Words.{Option, Some, ap, refl}
 use Rattle.camp_talk.specs.Diagnostics.{FailedCommand}
 use Rattle.camp_talk.specs.Laws.{CausesAreReported, RefusalsAreDescribed}
 use Rattle.camp_talk.specs.declared.diagnostics.FailureCause.TheVariants as failure

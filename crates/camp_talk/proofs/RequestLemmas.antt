@@ -1,6 +1,6 @@
 -- The answer to a request, from the steps that are taken.
 use Rattle.camp_talk.specs.Diagnostics.{no_diagnostic}
-use Rattle.camp_talk.proofs.Words.{◌≡◌, ◌≤◌, ◌⊎◌, ◌+◌, ◌^◌, ◌<◌, ◌-◌, inl, inr, min, ℕ, Bool, true, false, List, [], ◌∷◌, ◌++◌, length, length-append, map, length-map, arith, All, All-cons, All-nil, Option, Some, Result, Ok, Err, Vec, append-nil, append_assoc, flat_map, refl, sym, subst, ap, ◌∙◌, AnswersInOrder, AnswersParsed, Entries, Exchange, Exchanges, IsCommand, IsLeft, ReadsCommand, ReadsNone, SessionState, parsed_command}
+use Rattle.camp_talk.proofs.Words.{◌≡◌, ◌≤◌, ◌⊎◌, ◌+◌, ◌^◌, ◌<◌, ◌-◌, inl, inr, min, ℕ, Bool, true, false, List, [], ◌∷◌, ◌++◌, length, length-append, map, length-map, arith, All, All-cons, All-nil, Option, Some, Err, append-nil, append_assoc, flat_map, refl, sym, subst, ap, ◌∙◌, AnswersInOrder, AnswersParsed, Entries, Exchange, Exchanges, IsCommand, IsLeft, ReadsCommand, ReadsNone, SessionState, parsed_command}
 use Rattle.camp_talk.proofs.Firsts.{command_read}
 use Rattle.camp_talk.proofs.StepLemmas.{begins_so, counts_none, counts_one_more, holds_on}
 use Rattle.camp_talk.specs.Inside.ExecutingNext.{ExecutesNext}
@@ -9,7 +9,7 @@ use Rattle.camp_talk.specs.Requests.{AnswersRequest, AnswersSome, HasCommands, o
 use Rattle.camp_talk.specs.declared.faults.TalkFault.{TalkFault}
 use Rattle.camp_talk.specs.declared.faults.TalkFault.TheVariants.{Internal, Memory, Read, Write}
 use Rattle.camp_talk.specs.declared.requests.Halt.{Halt}
-use Rattle.camp_talk.specs.declared.requests.Halt.TheVariants.{After, Before}
+use Rattle.camp_talk.specs.declared.requests.Halt.TheVariants.{After}
 use Rattle.camp_talk.specs.declared.responses.Response.{Response}
 use Rattle.camp_talk.specs.declared.responses.Response.TheVariants.{Done, Failed, OutOfMemory}
 

@@ -1,10 +1,11 @@
 -- Conversations grow by a group.
-use Rattle.std.proofs.Common.{◌≡◌, ℕ, ◌+◌, ◌-◌, ◌^◌, List, [], ◌∷◌, ◌++◌, length, Option, Result, Ok, Err, refl, sym, ◌∙◌, ap, subst, append-nil, arith, length-append, flat_map}
+use Rattle.std.proofs.Common.{◌≡◌, ℕ, ◌+◌, ◌-◌, ◌^◌, List, [], ◌∷◌, ◌++◌, length, Option, Result, Ok, Err, refl, sym, ◌∙◌, ap, subst, append-nil, append_assoc, arith, length-append, flat_map}
 use Rattle.std.proofs.KnownBytes.{Appends-nil, Appends-trans, Consumes-nil, Consumes-trans}
 use Rattle.std.proofs.lemmas.Grind.{flat_map-append}
 use Rattle.std.specs.Io.KnownBytes.{Appends, Consumes}
-use Rattle.camp_talk.specs.Engine.Groups.{ExecutesInOrder, HasSteps, IfSteps, RunsGroup, Step, responses}
-use Rattle.camp_talk.specs.Engine.Runs.{Commits, EndsAfterGroup, FlushesGroup, HasRun, IsCommitted, ResponsesAreDurable, RunsAll, UnlessCommitFails}
+use Rattle.camp_talk.specs.Engine.Groups.{ExecutesInOrder, Halts, HasSteps, RunsGroup, Step, responses}
+use Rattle.camp_talk.specs.Engine.Runs.{Commits, EndsAfterGroup, FlushesGroup, HasRun, ResponsesAreDurable, RunsAll, UnlessCommitFails, durable_after}
+use Rattle.camp_talk.specs.Talks.{AppendsSome}
 use Rattle.camp_talk.specs.declared.engine.backends.Backend as backends
 use Rattle.camp_talk.specs.declared.engine.framings.Framing as framings
 use Rattle.camp_talk.specs.declared.engine.groups.GroupLimits.{GroupLimits}
@@ -13,9 +14,9 @@ use Rattle.camp_talk.specs.declared.engine.groups.Halt.TheVariants as halt
 use Rattle.camp_talk.specs.declared.engine.runs.Stop.{Stop}
 use Rattle.camp_talk.specs.declared.engine.runs.Stop.TheVariants as stop
 
-module _ {B F Q A E H : Type 0} (backend : backends.Ghosts B Q A E) (framing : framings.Ghosts F Q A H) (limits : GroupLimits) where
+module _ {B F Q A C E H : Type 0} (backend : backends.Ghosts B Q A E C) (framing : framings.Ghosts F Q A H) (limits : GroupLimits) where
   commits_more : (first : B) (from : F) (groups : List (List (Step Q A))) (begun : B) (at : F) (steps : List (Step Q A)) (executed : B) (to : F) (last : B)
-      → Commits backend framing limits first from groups begun at → HasSteps steps → ExecutesInOrder backend framing limits begun at [] steps executed to → IsCommitted backend executed last
+      → Commits backend framing limits first from groups begun at → HasSteps steps → ExecutesInOrder backend framing limits begun at [] steps executed to → backend.commits executed (Ok tt) last
       → Commits backend framing limits first from (groups ++ steps ∷ []) last to
   commits_more first from [] begun at steps executed to last (same, same_too) some follows committed = (
     executed,
@@ -30,7 +31,7 @@ module _ {B F Q A E H : Type 0} (backend : backends.Ghosts B Q A E) (framing : f
   commits_more first from (group ∷ groups) begun at steps executed to last (done, next, on, several, follow, settled, more) some follows committed =
       (done, next, on, several, follow, settled, commits_more next on groups begun at steps executed to last more some follows committed)
 
-  follows_read : (before : B) (from : F) (pending : List ℕ) (steps : List (Step Q A)) (after : B) (to : F)
+  pub follows_read : (before : B) (from : F) (pending : List ℕ) (steps : List (Step Q A)) (after : B) (to : F)
       → ExecutesInOrder backend framing limits before from pending steps after to
       → Consumes (framing.remaining from) (framing.remaining to) (flat_map (λ (step : Step Q A). step.bytes) steps)
   follows_read before from pending [] after to (same, same_too) =
@@ -82,7 +83,7 @@ module _ {B F Q A E H : Type 0} (backend : backends.Ghosts B Q A E) (framing : f
             ap (λ (l : List ℕ). flat_map (responses backend framing) earlier.groups ++ l) (sym (append-nil (responses backend framing steps)))
             ∙ sym (flat_map-append (responses backend framing) earlier.groups (steps ∷ []))
 
-    ends : (why : Halt E H) → RunsGroup backend framing limits begun at why executed to text → (result : Result (Unit {0}) (Stop E H))
+    ends : (why : Halt A E H) → RunsGroup backend framing limits begun at why executed to text → (result : Result (Unit {0}) (Stop C E H))
         → FlushesGroup backend executed text held result last new → EndsAfterGroup backend framing limits why result first from old last to new
     ends why gathers result flushes = record {
       begun = begun;
@@ -96,41 +97,99 @@ module _ {B F Q A E H : Type 0} (backend : backends.Ghosts B Q A E) (framing : f
     }
 
     -- a commit or a write has failed
-    pub run_stops : (why : Halt E H) → RunsGroup backend framing limits begun at why executed to text → (fault : Stop E H)
+    pub run_stops : (why : Halt A E H) → RunsGroup backend framing limits begun at why executed to text → (fault : Stop C E H)
         → FlushesGroup backend executed text held (Err fault) last new → RunsAll backend framing limits first from old (Err fault) last to new
     run_stops why gathers (stop.Commit fault) flushes = record { why = why; ends = ends why gathers (Err (stop.Commit fault)) flushes }
     run_stops why gathers (stop.Write error) flushes = record { why = why; ends = ends why gathers (Err (stop.Write error)) flushes }
     run_stops why gathers (stop.Read fault) flushes = absurd flushes
     run_stops why gathers (stop.Execute fault) flushes = absurd flushes
-    run_stops why gathers stop.Memory flushes = absurd flushes
     run_stops why gathers stop.Internal flushes = absurd flushes
 
-module _ {B F Q A E H : Type 0} (backend : backends.Ghosts B Q A E) (framing : framings.Ghosts F Q A H) where
-  commits_durable : (limits : GroupLimits) (first : B) (from : F) (groups : List (List (Step Q A))) (last : B) (at : F) → Commits backend framing limits first from groups last at
-      → IfSteps groups (backend.durable last ≡ backend.history last)
-  commits_durable limits first from [] last at commits = tt
-  commits_durable limits first from (steps ∷ []) last at (executed, next, on, some, follows, committed, (same, same_too)) =
-      subst (λ (b : B). backend.durable b ≡ backend.history b) same committed.durable
-  commits_durable limits first from (steps ∷ second ∷ groups) last at (executed, next, on, some, follows, committed, more) =
-      commits_durable limits next on (second ∷ groups) last at more
+-- pending responses were written, and then one more, or a prefix of it
+module _ {B Q A C E : Type 0} (backend : backends.Ghosts B Q A E C) (executed : B) (text : List ℕ) (old held : Option (List ℕ)) (last : B)
+    (flushes : backend.commits executed (Ok tt) last × Appends old held text) (more : List ℕ) (new : Option (List ℕ)) where
+  pub flushes_more : Appends held new more → backend.commits executed (Ok tt) last × Appends old new (text ++ more)
+  flushes_more writes = (flushes.0, Appends-trans old held new text more flushes.1 writes)
 
-  counted_durable : (groups : List (List (Step Q A))) (fact : Type 0) → length groups ≡ 2 ^ 64 - 1 → IfSteps groups fact → fact
-  counted_durable [] fact counted holds = absurd (omega (arith, counted))
-  counted_durable (steps ∷ groups) fact counted holds = holds
+  pub flushes_some : AppendsSome held new more → backend.commits executed (Ok tt) last × AppendsSome old new (text ++ more)
+  flushes_some (some, rest, is, writes) = (
+    flushes.0,
+    (
+      text ++ some,
+      rest,
+      ap (λ (l : List ℕ). text ++ l) is ∙ sym (append_assoc text some rest),
+      Appends-trans old held new text some flushes.1 writes,
+    ),
+  )
 
-  run_durable : (limits : GroupLimits) (first : B) (from : F) (old : Option (List ℕ)) (result : Result (Unit {0}) (Stop E H)) (last : B) (to : F) (new : Option (List ℕ))
-      → RunsAll backend framing limits first from old result last to new → UnlessCommitFails result (backend.durable last ≡ backend.history last)
-  run_durable limits first from old (Ok done) last to new runs = runs.flushes.0.durable
-  run_durable limits first from old (Err (stop.Commit why)) last to new runs = tt
-  run_durable limits first from old (Err (stop.Write error)) last to new runs = runs.ends.flushes.0.durable
-  run_durable limits first from old (Err (stop.Read why)) last to new runs = runs.flushes.0.durable
-  run_durable limits first from old (Err (stop.Execute why)) last to new runs = runs.flushes.0.durable
-  run_durable limits first from old (Err stop.Memory) last to new runs = runs.flushes.0.durable
-  run_durable limits first from old (Err stop.Internal) last to new (done, counted) =
-      counted_durable done.groups (backend.durable last ≡ backend.history last) counted (commits_durable limits first from done.groups last to done.commits)
+-- given the laws of a backend
+module _ {B F Q A C E H : Type 0} (backend : backends.Ghosts B Q A E C) (framing : framings.Ghosts F Q A H)
+    (execute_persists : (before : B) (request : Q) (result : Result A E) (after : B) → backend.executes before request result after
+    → (stored : backend.Contents) → backend.persists stored before → backend.persists stored after)
+    (commit_persists : (before after : B) → backend.commits before (Ok tt) after
+    → (stored : backend.Contents) → backend.persists stored before → backend.persists (backend.contents after) after) where
+  follows_persist : (limits : GroupLimits) (before : B) (from : F) (pending : List ℕ) (steps : List (Step Q A)) (after : B) (to : F)
+      → ExecutesInOrder backend framing limits before from pending steps after to → (stored : backend.Contents) → backend.persists stored before → backend.persists stored after
+  follows_persist limits before from pending [] after to (same, same_too) stored durable = subst (λ (b : B). backend.persists stored b) same durable
+  follows_persist limits before from pending (step ∷ steps) after to (next, on, one, ahead, more) stored durable =
+      follows_persist limits next on (pending ++ framing.renders step.response) steps after to more stored
+      (execute_persists before step.request (Ok step.response) next one.executes stored durable)
+
+  commits_persist : (limits : GroupLimits) (first : B) (from : F) (groups : List (List (Step Q A))) (last : B) (at : F) → Commits backend framing limits first from groups last at
+      → (stored : backend.Contents) → backend.persists stored first → backend.persists (durable_after groups stored (backend.contents last)) last
+  commits_persist limits first from [] last at (same, same_too) stored durable = subst (λ (b : B). backend.persists stored b) same durable
+  commits_persist limits first from (steps ∷ groups) last at (executed, next, on, some, follows, committed, more) stored durable =
+      all_persist groups more (commits_persist limits next on groups last at more (backend.contents next)
+      (commit_persists executed next committed stored (follows_persist limits first from [] steps executed on follows stored durable)))
+    where
+      all_persist : (groups : List (List (Step Q A))) → Commits backend framing limits next on groups last at
+          → backend.persists (durable_after groups (backend.contents next) (backend.contents last)) last → backend.persists (backend.contents last) last
+      all_persist [] (same, same_too) durable = subst (λ (b : B). backend.persists (backend.contents b) last) same durable
+      all_persist (group ∷ others) commits durable = durable
+
+  halts_persist : (why : Halt A E H) (middle : B) (at : F) (after : B) (to : F) → Halts backend framing middle at why after to
+      → (stored : backend.Contents) → backend.persists stored middle → backend.persists stored after
+  halts_persist halt.Pause middle at after to (same, more) stored durable = subst (λ (b : B). backend.persists stored b) same durable
+  halts_persist halt.End middle at after to (same, more) stored durable = subst (λ (b : B). backend.persists stored b) same durable
+  halts_persist (halt.Read why) middle at after to (same, more) stored durable = subst (λ (b : B). backend.persists stored b) same durable
+  halts_persist (halt.Execute why) middle at after to executes stored durable =
+      execute_persists middle executes.request (Err why) after executes.is.executes stored durable
+  halts_persist (halt.Unbuffered response) middle at after to executes stored durable =
+      execute_persists middle executes.request (Ok response) after executes.is.executes stored durable
+
+  module _ (limits : GroupLimits) (first : B) (from : F) (old : Option (List ℕ)) (stored : backend.Contents) (durable : backend.persists stored first) where
+    executed_persists : (why : Halt A E H) (result : Result (Unit {0}) (Stop C E H)) (last : B) (to : F) (new : Option (List ℕ))
+        → (ends : EndsAfterGroup backend framing limits why result first from old last to new)
+        → backend.persists (durable_after ends.earlier.groups stored (backend.contents ends.begun)) ends.executed
+    executed_persists why result last to new ends =
+        halts_persist why ends.gathers.middle ends.gathers.at ends.executed to ends.gathers.halts _
+        (follows_persist limits ends.begun ends.at [] ends.gathers.gathered.steps ends.gathers.middle ends.gathers.at ends.gathers.gathered.follows _
+        (commits_persist limits first from ends.earlier.groups ends.begun ends.at ends.earlier.commits stored durable))
+
+    committed_persists : (why : Halt A E H) (result : Result (Unit {0}) (Stop C E H)) (last : B) (to : F) (new : Option (List ℕ))
+        → (ends : EndsAfterGroup backend framing limits why result first from old last to new) → backend.commits ends.executed (Ok tt) last
+        → backend.persists (backend.contents last) last
+    committed_persists why result last to new ends commits = commit_persists ends.executed last commits _ (executed_persists why result last to new ends)
+
+    counted_persists : (groups : List (List (Step Q A))) (last : B) → length groups ≡ 2 ^ 64 - 1
+        → backend.persists (durable_after groups stored (backend.contents last)) last → backend.persists (backend.contents last) last
+    counted_persists [] last counted persists = absurd (omega (arith, counted))
+    counted_persists (steps ∷ groups) last counted persists = persists
+
+    run_persists : (result : Result (Unit {0}) (Stop C E H)) (last : B) (to : F) (new : Option (List ℕ))
+        → RunsAll backend framing limits first from old result last to new → UnlessCommitFails result (backend.persists (backend.contents last) last)
+    run_persists (Ok done) last to new runs = committed_persists halt.End (Ok tt) last to new runs runs.flushes.0
+    run_persists (Err (stop.Commit why)) last to new runs = tt
+    run_persists (Err (stop.Write error)) last to new runs = committed_persists runs.why (Err (stop.Write error)) last to new runs.ends runs.ends.flushes.0
+    run_persists (Err (stop.Read why)) last to new runs = committed_persists (halt.Read why) (Ok tt) last to new runs runs.flushes.0
+    run_persists (Err (stop.Execute why)) last to new runs = committed_persists (halt.Execute why) (Ok tt) last to new runs runs.flushes.0
+    run_persists (Err stop.Internal) last to new (done, counted) =
+        counted_persists done.groups last counted (commits_persist limits first from done.groups last to done.commits stored durable)
 
   pub responses_durable : ResponsesAreDurable backend framing
   responses_durable = record {
-    groups = λ limits first from old last at new run. commits_durable limits first from run.groups last at run.commits;
-    all = run_durable;
+    groups = λ limits first from old last at new run stored durable. commits_persist limits first from run.groups last at run.commits stored durable;
+    all = λ limits first from old result last to new runs stored durable. run_persists limits first from old stored durable result last to new runs;
+    failed = λ limits first from old why last to new stops stored durable.
+        executed_persists limits first from old stored durable stops.why (Err (stop.Commit why)) last to new stops.ends;
   }

@@ -1,7 +1,6 @@
 -- Steps of a conversation, one after the other.
-use Rattle.camp_talk.proofs.Words.{Call, refl, sym, ap, subst, ◌∙◌, ◌≢◌, ⊎_elim, cases_Bool, append-nil, flat_map, flat_map-append, first_of, true≢false, Gives, lines_of, LineFault, ScriptFault, AnswersCommand, SessionState, AnswersParsed, RunsOutOfMemory, parsed_command, IsCommand, IsLeft, Entries, IsReading, IsResponse, IsWriting, UpdatesDiagnostic, lines_in, is_silent, written, ParsedCommand, reports_failure, ◌≡◌, ◌≤◌, ◌⊎◌, inl, inr, ℕ, ◌+◌, ◌^◌, Bool, true, false, List, [], ◌∷◌, ◌++◌, length, length-append, Option, Some, Result, Ok, Err, Vec, Appends, Consumes, Appends-nil, Appends-trans, Consumes-nil, Consumes-trans, Exchange, Exchanges, AnswersInOrder, HasAnswered, ReadsNone, ReadsTooMuch, ReadsWithin, Stops, TakesStep}
+use Rattle.camp_talk.proofs.Words.{Call, refl, sym, ap, subst, ◌∙◌, ◌≢◌, ⊎_elim, cases_Bool, append-nil, flat_map, flat_map-append, first_of, true≢false, Gives, lines_of, LineFault, ScriptFault, AnswersCommand, SessionState, AnswersParsed, RunsOutOfMemory, parsed_command, IsCommand, IsLeft, Entries, IsReading, IsResponse, UpdatesDiagnostic, lines_in, is_silent, written, ParsedCommand, reports_failure, ◌≡◌, ◌≤◌, ◌⊎◌, inl, inr, ℕ, ◌+◌, ◌^◌, Bool, true, false, List, [], ◌∷◌, ◌++◌, length, length-append, Option, Some, Result, Ok, Err, Vec, Appends, Consumes, Appends-nil, Appends-trans, Consumes-nil, Consumes-trans, Exchange, Exchanges, AnswersInOrder, HasAnswered, ReadsNone, ReadsTooMuch, ReadsWithin}
 use Rattle.std.specs.Global.{Global}
-use Rattle.std.specs.Io.KnownBytes.{Keeps}
 use Rattle.camp_call.specs.declared.replies.Refusal.{Refusal}
 use Rattle.camp_object.specs.Books.{replay_book}
 use Rattle.camp_questions.specs.declared.faults.Unanswered.{Unanswered}
@@ -17,7 +16,7 @@ use Rattle.camp_talk.specs.Inside.Responses.{GivesAnswer, IsOutOfMemory}
 use Rattle.camp_talk.specs.QuestionAnswers.{AnswersQuestionAt}
 use Rattle.camp_talk.specs.Reports.{RendersWhy}
 use Rattle.camp_talk.specs.declared.faults.TalkFault.{TalkFault}
-use Rattle.camp_talk.specs.declared.faults.TalkFault.TheVariants.{Memory, Read, Write}
+use Rattle.camp_talk.specs.declared.faults.TalkFault.TheVariants.{Memory, Read}
 use Rattle.camp_talk.specs.declared.questions.ParsedCommand.TheVariants as parsed
 use Rattle.camp_talk.specs.declared.questions.ParsedCommand.TheVariants.{Nothing}
 use Rattle.camp_talk.specs.declared.questions.Question.{Question}
@@ -143,12 +142,6 @@ module _ (before after : SessionState) (command : List ℕ) where
       → after.lines ≡ before.lines + length (lines_of command) → AnswersCommand before command (written response) after
   answered response says counts = record { reports = answered_by response says; counts = counts; updates = updated_by response says }
 
-abbrev pub at_lines : ℕ → Entries → Diagnostic → SessionState
-at_lines lines history diagnostic = record { history = history; lines = lines; diagnostic = diagnostic }
-
-pub same_standing : (lines : ℕ) (a b : Entries) (c d : Diagnostic) → a ≡ b → c ≡ d → at_lines lines a c ≡ at_lines lines b d
-same_standing lines a b c d same kept = (λ j. at_lines lines (same j) (kept j))
-
 -- no command was read
 module _ (a b : Option (List ℕ)) (before : SessionState) where
   pub reads_none : (why : TalkFault) → IsReading why → ReadsWithin a b → ReadsNone a b before why
@@ -160,17 +153,6 @@ module _ (a b : Option (List ℕ)) (before : SessionState) where
   pub reads_too_much : (some : List ℕ) → Consumes a b some → IsLeft some → 2 ^ 64 ≤ before.lines + length (lines_of some) + 1
       → ReadsTooMuch a b before
   reads_too_much some reads is many = record { some = some; reads = reads; is = is; many = many }
-
-module _ (remaining rest old new : Option (List ℕ)) (before after : SessionState) where
-  pub broken : (why : TalkFault) → ReadsNone remaining rest before why → Keeps old new → after ≡ before
-      → TakesStep remaining rest old new before (Err why) after
-  broken (Write error) none keeps same = absurd none
-  broken other none keeps same = record { none = none; keeps = keeps; same = same }
-
-  pub stopped : (why : TalkFault) → IsWriting why → Stops remaining rest old new before after
-      → TakesStep remaining rest old new before (Err why) after
-  stopped (Write error) is stops = stops
-  stopped other is stops = absurd is
 
 -- one more command is answered
 pub one_more : (first middle last : SessionState) (exchanges : List Exchange) (more : Exchange) → AnswersInOrder first exchanges middle

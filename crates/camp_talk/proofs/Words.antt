@@ -25,9 +25,9 @@ pub use Rattle.camp_talk.specs.Cutting.{IsCommand, IsLeft, IsLine, TakesAll, as_
 pub use Rattle.camp_talk.specs.Entries.{Entries}
 pub use Rattle.camp_talk.specs.Inside.ExecutingNext.{DoesOne, ExecutesNext, IsResponse, LoadsOne}
 pub use Rattle.camp_talk.specs.Inside.Parts.{Ends, EndsAt, GoesOn, IsReading, ReadsHeld, ReadsLine, ReadsLines, ReadsNext, StopsAtLine, StopsInLine, Takes, ended, feed_of, last_seen, seen_of, with_last}
-pub use Rattle.camp_talk.specs.Inside.Responses.{IsWriting, written}
+pub use Rattle.camp_talk.specs.Inside.Responses.{written}
 pub use Rattle.camp_talk.specs.Loads.{Done, Fails, LacksMemory, ReportsSuccess}
-pub use Rattle.camp_talk.specs.Talks.{AnswersInOrder, AppendsSome, Breaks, Exchange, Exchanges, HasAnswered, ReadsCommand, ReadsNone, ReadsTooMuch, ReadsWithin, Stops, TakesStep}
+pub use Rattle.camp_talk.specs.Talks.{AnswersInOrder, AppendsSome, Exchange, Exchanges, HasAnswered, ReadsCommand, ReadsNone, ReadsTooMuch, ReadsWithin}
 pub use Rattle.camp_talk.specs.QuestionAnswers.{RendersAnswer, annotated_line, catch_line, names_answer}
 pub use Rattle.camp_talk.specs.declared.lines.Seen.{Seen}
 pub use Rattle.camp_talk.specs.declared.questions.ParsedCommand.{ParsedCommand}

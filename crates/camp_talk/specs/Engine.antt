@@ -1,4 +1,5 @@
-pub mod Backends
+pub mod Commands
 pub mod Framings
 pub mod Groups
 pub mod Runs
+pub mod Services

@@ -23,9 +23,8 @@ use Rattle.camp_talk.specs.Diagnostics.{Diagnostic, advanced, begins_command, fa
 use Rattle.camp_talk.specs.Answers.{AnswersCommand, SessionState, memory_text, reports_failure}
 use Rattle.camp_talk.specs.Parsing.{first_of, parsed_command}
 use Rattle.camp_talk.specs.Cutting.{IsLine, longest_read}
-use Rattle.camp_talk.specs.Dialogues.{StepsLead}
 use Rattle.camp_talk.specs.Entries.{Entries}
-use Rattle.camp_talk.specs.Frames.{BeginsNoFrame, Counter, EndsWithin, HasNoFrame, ServesAt, ServesInTurn, most_bytes}
+use Rattle.camp_talk.specs.Frames.{BeginsNoFrame, EndsWithin, HasNoFrame, most_bytes}
 use Rattle.camp_talk.specs.Loads.{Loads}
 use Rattle.camp_talk.specs.QuestionAnswers.{counted}
 use Rattle.camp_talk.specs.declared.diagnostics.FailureCause.TheVariants as failure
@@ -46,12 +45,6 @@ abbrev pub CountsMatchLines : Type 0
 CountsMatchLines =
     (word text : List ℕ) → All (λ byte. byte ≢ newline) word → length (lines_of text) < 2 ^ 64 →
     lines_of (counted word text) ≡ (word ++ space ∷ decimal (length (lines_of text))) ∷ lines_of text
-
--- steps that serve requests one after the other give to each the answer after those before it
-abbrev pub RequestsAreServedInTurn : Type 0
-RequestsAreServedInTurn =
-    (first last : Counter) (over : List Counter) → StepsLead ServesAt first over last →
-    ServesInTurn first.left last.left first.held last.held first.history last.history
 
 -- what is read of a request that is not served: a line that is no number of bytes, or too great a one, begins no frame;
 -- and a part of a frame does not begin with a complete one

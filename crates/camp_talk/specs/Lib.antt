@@ -1,7 +1,6 @@
 pub mod Answers
 pub mod Cutting
 pub mod Diagnostics
-pub mod Dialogues
 pub mod Engine
 pub mod Entries
 pub mod FaultTexts

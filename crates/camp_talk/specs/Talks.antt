@@ -1,11 +1,10 @@
 -- What a conversation reads and writes.
-use Rattle.std.specs.Prelude.{◌≡◌, ◌^◌, ◌+◌, ◌<◌, ◌≤◌, ℕ, Bool, true, false, List, [], ◌∷◌, ◌++◌, length, Option, OnSome, Result, Ok, Err}
+use Rattle.std.specs.Prelude.{◌≡◌, ◌^◌, ◌+◌, ◌<◌, ◌≤◌, ℕ, Bool, true, false, List, [], ◌∷◌, ◌++◌, length, Option, OnSome}
 use Rattle.std.specs.List.{flat_map}
-use Rattle.std.specs.Io.KnownBytes.{Appends, Consumes, IsAtEnd, Keeps}
+use Rattle.std.specs.Io.KnownBytes.{Appends, Consumes, IsAtEnd}
 use Rattle.camp_script.specs.Lines.{lines_of}
 use Rattle.camp_talk.specs.Answers.{AnswersCommand, SessionState}
 use Rattle.camp_talk.specs.Cutting.{IsCommand, IsLeft}
-use Rattle.camp_talk.specs.Entries.{Entries}
 use Rattle.camp_talk.specs.declared.faults.TalkFault.{TalkFault}
 use Rattle.camp_talk.specs.declared.faults.TalkFault.TheVariants.{Internal, Memory, Read, Write}
 
@@ -59,31 +58,6 @@ module _ (remaining rest old new : Option (List ℕ)) where
     pub answers : AnswersCommand before exchange.command exchange.answer after
     pub writes : Appends old new exchange.answer
 
-  -- a command was read and executed, but only a prefix of its answer was written; its lines are not counted
-  pub record Stops (before after : SessionState) : Type 0 where
-    pub whole : Bool
-    pub exchange : Exchange
-    pub reads : ReadsCommand remaining rest whole exchange.command
-    pub reached : SessionState
-    pub answers : AnswersCommand before exchange.command exchange.answer reached
-    pub same : after ≡ record { history = reached.history; lines = before.lines; diagnostic = reached.diagnostic }
-    pub writes : AppendsSome old new exchange.answer
-
-  -- there was no command to execute: nothing was written, and nothing has changed
-  pub record Breaks (before : SessionState) (why : TalkFault) (after : SessionState) : Type 0 where
-    pub none : ReadsNone remaining rest before why
-    pub keeps : Keeps old new
-    pub same : after ≡ before
-
-  -- a step with one command. Ok: true if there may be more, false if the input has ended. Write: the command was
-  -- executed, and its answer could not be written. Any other fault: no command was executed.
-  abbrev pub TakesStep : SessionState → Result Bool TalkFault → SessionState → Type 0
-  TakesStep before (Ok whole) after = Exchanges whole before after
-  TakesStep before (Err Memory) after = Breaks before Memory after
-  TakesStep before (Err (Read error)) after = Breaks before (Read error) after
-  TakesStep before (Err (Write error)) after = Stops before after
-  TakesStep before (Err Internal) after = Breaks before Internal after
-
 -- commands are answered one after the other, beginning with this session state
 abbrev pub AnswersInOrder : SessionState → List Exchange → SessionState → Type 0
 AnswersInOrder first [] last = first ≡ last
@@ -96,15 +70,3 @@ pub record HasAnswered (remaining rest old new : Option (List ℕ)) (first last 
   pub follow : AnswersInOrder first exchanges last
   pub reads : Consumes remaining rest (flat_map (λ exchange. exchange.command) exchanges)
   pub writes : Appends old new (flat_map (λ exchange. exchange.answer) exchanges)
-
--- commands were answered one after the other, and then came a step with this result
-pub record EndsWithStep (remaining rest old new : Option (List ℕ)) (first : SessionState) (step_result : Result Bool TalkFault)
-    (history : Entries) : Type 0 where
-  -- the rest of the reader, what was written, and the session state, before that step
-  pub left : Option (List ℕ)
-  pub held : Option (List ℕ)
-  pub middle : SessionState
-  pub last : SessionState
-  pub holds : HasAnswered remaining left old held first middle
-  pub takes_step : TakesStep left rest held new middle step_result last
-  pub leaves : history ≡ last.history

@@ -9,10 +9,11 @@ ghost use Rattle.camp_script.specs.declared.faults.LineFault.{LineFault as SpecF
 ghost use Rattle.camp_talk.specs.Answers.{asks_nothing};
 ghost use Rattle.camp_talk.specs.Entries.{Entries};
 ghost use Rattle.camp_talk.specs.Inside.ExecutingNext.{ExecutesRequest, RefusesRequest, RendersReply, RepliesTo, RespondsTo};
-ghost use Rattle.camp_talk.specs.Inside.Responses.{IsOutOfMemory, IsWriting, written};
+ghost use Rattle.camp_talk.specs.Inside.Responses.{IsOutOfMemory};
 ghost use Rattle.camp_talk.specs.Talks.{AppendsSome};
 ghost use Rattle.camp_talk.specs.declared.questions.ParsedCommand.{ParsedCommand as SpecParsedCommand};
 
+use crate::Diagnostic;
 use crate::answer_parts::refusal_text;
 use crate::parsing::first_line;
 use crate::question_answers::answer_at;
@@ -20,7 +21,6 @@ use crate::questions::ParsedCommand;
 use crate::readings::Command;
 use crate::responses::{Failure, Response, fault_text};
 use crate::why_reports::render_why;
-use crate::{Diagnostic, TalkFault};
 use camp_object::Fault;
 use camp_questions::Unanswered;
 use camp_repo::{Book, Call, Refusal, Reply, State};
@@ -203,16 +203,4 @@ pub fn write_answer<W: Write>(writer: &mut W, text: &[u8]) -> io::Result<()>
     write_text(writer, text)?;
     writer.flush()?;
     Ok(())
-}
-
-/// Writes the response to a command.
-pub(crate) fn write_response<W: Write>(writer: &mut W, response: &Response) -> Result<(), TalkFault>
-    ensures { MatchResult result
-        (λ _. Appends (W.contents writer.old) (W.contents writer.new) (written response.now))
-        (λ why. IsWriting why × AppendsSome (W.contents writer.old) (W.contents writer.new) (written response.now)) }
-{
-    match write_answer(writer, response.bytes()) {
-        Ok(()) => Ok(()),
-        Err(error) => Err(TalkFault::Write(error)),
-    }
 }

@@ -1,6 +1,10 @@
-//! The laws of answers: counts, failures, diagnostics, requests, and loading the output of `keep`.
-ghost use Rattle.camp_talk.specs.Laws.{CausesAreReported, CountsMatchLines, FailuresAreReported, FaultsAreDescribed, KeepRestoresHistory, RecoveryFollowsCutOff, RefusalsAreDescribed, RequestsAreServedInTurn, UnservedBytesHaveNoFrame};
+//! The laws of answers: counts, failures, diagnostics, requests, frames, and loading the output of `keep`.
+ghost use Rattle.camp_talk.specs.Engine.Services.{RequestsAreServedInTurn};
+ghost use Rattle.camp_talk.specs.Entries.{Entries};
+ghost use Rattle.camp_talk.specs.Laws.{CausesAreReported, CountsMatchLines, FailuresAreReported, FaultsAreDescribed, KeepRestoresHistory, RecoveryFollowsCutOff, RefusalsAreDescribed, UnservedBytesHaveNoFrame};
 ghost use Rattle.camp_talk.specs.Visible.{ShownBytesArePrintable};
+
+use crate::engine::{Backend, Framing};
 
 /// The first line of a counted answer gives the number of lines that follow.
 #[tactic(auto, using(crate::proofs::CountLemmas::counts_match_lines))]
@@ -12,13 +16,6 @@ pub fn counts_match_lines()
 #[tactic(auto, using(crate::proofs::Failing::failures_are_reported))]
 pub fn failures_are_reported()
     ensures law { FailuresAreReported }
-{}
-
-/// If requests are served one after the other, the n-th answer that was written is that of the n-th request that was
-/// read, executed after the requests before it.
-#[tactic(auto, using(crate::proofs::Served::served_in_turn))]
-pub fn requests_are_served_in_turn()
-    ensures law { RequestsAreServedInTurn }
 {}
 
 /// `load` restores a history from the output of `keep` or `kept_text`: its calls are accepted again and lead to its
@@ -49,6 +46,12 @@ pub fn faults_are_described()
 /// be one, and each command since then is one of those lines.
 pub fn recovery_follows_cut_off()
     ensures law { RecoveryFollowsCutOff }
+{}
+
+/// If requests are served in frames, in memory or over a store, the n-th answer that was written is that of the n-th
+/// request that was read, executed after the requests before it.
+pub fn requests_are_served_in_turn<B: Backend<Vec<u8>, Vec<u8>>, F: Framing<Vec<u8>, Vec<u8>>>()
+    ensures law { (history_of : B → Entries) → RequestsAreServedInTurn B.Backend F.Framing history_of }
 {}
 
 /// A line that is no number of bytes, or too great a one, begins no frame; and what was read of an incomplete frame

@@ -6,7 +6,6 @@ mod answers;
 mod cause_reports;
 mod conflict_answers;
 mod diagnostics;
-mod dialogues;
 mod engine;
 mod fault_reports;
 mod faults;
@@ -20,9 +19,11 @@ mod loads;
 mod names_answers;
 mod parsing;
 mod plain_texts;
+mod prompts;
 mod question_answers;
 mod question_words;
 mod questions;
+mod readiness;
 mod readings;
 mod recovery;
 mod refusal_reports;
@@ -42,10 +43,12 @@ mod why_reports;
 pub use answers::write_answer;
 pub use camp_repo::{Book, LimitFault, Limits, State, new_book};
 pub use diagnostics::Diagnostic;
-pub use dialogues::{Conversation, Dialogue, talk};
-pub use engine::{Backend, Frames, Framing, GroupLimits, Stop, responses_are_durable, run};
+pub use engine::{
+    Backend, Conversation, FramedConversation, Frames, Framing, GroupLimits, Halt, Lines, Prompts,
+    Stop, responses_are_durable, run,
+};
 pub use faults::{LoadFault, TalkFault};
-pub use frames::{FrameFault, FramedConversation};
+pub use frames::FrameFault;
 pub use laws::{
     causes_are_reported, counts_match_lines, failures_are_reported, faults_are_described,
     keep_restores_history, recovery_follows_cut_off, refusals_are_described,
@@ -54,8 +57,9 @@ pub use laws::{
 pub use loads::load;
 pub use question_answers::answer_question;
 pub use questions::{Question, Reason, Topic};
-pub use requests::answer_request;
-pub use serving::serve;
+pub use readings::Command;
+pub use requests::{answer_alone, answer_request};
+pub use responses::{Failure, Response};
 pub use sessions::{Session, View};
-pub use talks::take_step;
+pub use talks::execute_command;
 pub use views::answer_view;

@@ -21,7 +21,7 @@ use std::io::BufRead;
 
 /// A command: its lines, as they were read.
 #[derive(Drop)]
-pub(crate) struct Command {
+pub struct Command {
     pub(crate) bytes: Vec<u8>,
     /// True if its last line has a line feed; else the input has ended.
     pub(crate) is_whole: bool,

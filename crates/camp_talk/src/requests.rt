@@ -1,6 +1,7 @@
 //! Requests, each of which is a conversation of its own.
 ghost use Rattle.std.specs.Prelude.{◌≡◌, ◌++◌, true, List, IfErr, IfOk, MatchResult, OnOk, ℕ};
 ghost use Rattle.camp_talk.specs.Diagnostics.{no_diagnostic};
+ghost use Rattle.camp_talk.specs.Engine.Commands.{AnswersFrame};
 ghost use Rattle.camp_talk.specs.Inside.RequestSteps.{AppendsStep, IsHaltOf};
 ghost use Rattle.camp_talk.specs.Inside.Responses.{written};
 ghost use Rattle.camp_talk.specs.Requests.{AnswersRequest, AnswersSome, HasCommands, IsUnanswered, one_unless_empty};
@@ -37,6 +38,20 @@ pub fn answer_request(
 {
     let mut diagnostic = Diagnostic::new();
     answer_commands(alloc, book, &mut diagnostic, request, executed, answer)
+}
+
+/// Executes a request as `answer_request` does, and returns its answer.
+pub fn answer_alone(
+    alloc: Global,
+    book: &mut Book<State>,
+    request: &[u8],
+) -> Result<Vec<u8>, TalkFault>
+    ensures { AnswersFrame book.old request.now result book.new }
+{
+    let mut executed = 0;
+    let mut answer = Vec::new(alloc);
+    answer_request(alloc, book, request, &mut executed, &mut answer)?;
+    Ok(answer)
 }
 
 // Executes the commands of a request and appends their answers, from the first diagnostic on.

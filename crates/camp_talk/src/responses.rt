@@ -11,7 +11,7 @@ use std::alloc::{AllocError, Global};
 
 /// Why a command was not done.
 #[derive(Clone, Copy, Debug)]
-pub(crate) enum Failure {
+pub enum Failure {
     /// The command has a fault, in this line of it.
     Fault(LineFault),
     /// It was refused.
@@ -20,7 +20,7 @@ pub(crate) enum Failure {
 
 /// The response to a command.
 #[derive(Drop)]
-pub(crate) enum Response {
+pub enum Response {
     /// The command was done, or asks nothing. Contains its answer.
     Done(Vec<u8>),
     /// The command was not done, for this reason, and nothing has changed. Contains its answer.

@@ -1,55 +1,18 @@
-//! Serving one request in its frame.
-ghost use Rattle.std.specs.Prelude.{◌≡◌, ◌+◌, [], true, IfErr, IfOk, MatchOption, MatchResult, OnErr};
-ghost use Rattle.std.specs.Io.KnownBytes.{Appends, Consumes};
-ghost use Rattle.camp_talk.specs.Frames.{IsNotCountable, ReadsNoFrame, Serves, framed};
+//! Reading the frame of a request.
+ghost use Rattle.std.specs.Prelude.{◌≡◌, [], IfErr, IfOk, MatchOption, MatchResult, OnErr};
+ghost use Rattle.std.specs.Io.KnownBytes.{Consumes};
+ghost use Rattle.camp_talk.specs.Frames.{ReadsNoFrame};
 ghost use Rattle.camp_talk.specs.Inside.Framing.{IsCounted, IsNotCounted, ReadsBytes, ReadsFewer, ReadsFrame, ReadsMore, ReadsNothing};
 ghost use Rattle.camp_talk.specs.Inside.Parts.{IsReading};
-ghost use Rattle.camp_talk.specs.Inside.Responses.{IsWriting};
-ghost use Rattle.camp_talk.specs.Talks.{AppendsSome, HasGrown};
 
 use crate::lines::{hold, read_front, unless_interrupted};
-use crate::requests::answer_request;
 use crate::{FrameFault, TalkFault};
-use camp_repo::{Book, State};
-use camp_script::{count_of, write_text};
-use itoa::Buffer;
+use camp_script::count_of;
 use std::alloc::Global;
-use std::io::{BufRead, ErrorKind, Write};
+use std::io::{BufRead, ErrorKind};
 
 /// The most bytes of a request.
 const MAX_REQUEST: u64 = 268_435_456;
-
-/// Reads a request in its frame, answers it over a book at seat 0, writes the frame of the answer and
-/// flushes. True if there may be more; else the input has ended. `served` counts the requests that were
-/// served: each adds one, and `Internal` comes only if the next one has no number below 2^64. After a fault of
-/// the frame exactly a line was read, or the input ended within the frame; no whole frame is read and not
-/// answered.
-pub fn serve<R: BufRead, W: Write>(
-    alloc: Global,
-    book: &mut Book<State>,
-    served: &mut u64,
-    reader: &mut R,
-    writer: &mut W,
-) -> Result<bool, FrameFault>
-    ensures serves { Serves (R.remaining reader.old) (R.remaining reader.new) (W.contents writer.old) (W.contents writer.new)
-        book.old result book.new }
-    ensures counts { IfOk result (λ more. more ≡ true → HasGrown served.old served.new) }
-    ensures one { IfOk result (λ more. more ≡ true → served.new ≡ served.old + 1) }
-    ensures internal { IfErr result (IsNotCountable served.old) }
-{
-    let Some(after) = served.checked_add(1) else {
-        return Err(FrameFault::Talk(TalkFault::Internal));
-    };
-    let Some(request) = read_request(alloc, reader)? else {
-        return Ok(false);
-    };
-    let mut executed = 0;
-    let mut answer = Vec::new(alloc);
-    answer_request(alloc, book, &request, &mut executed, &mut answer)?;
-    write_frame(writer, &answer)?;
-    *served = after;
-    Ok(true)
-}
 
 /// Reads the frame of a request, if there is one more.
 pub(crate) fn read_request<R: BufRead>(
@@ -136,31 +99,4 @@ fn read_more<R: BufRead>(
     hold(bytes, &shown[..taken])?;
     reader.consume(taken);
     Ok(true)
-}
-
-// Writes the frame of an answer and flushes it.
-fn write_frame<W: Write>(writer: &mut W, answer: &[u8]) -> Result<(), TalkFault>
-    ensures { MatchResult result
-        (λ _. Appends (W.contents writer.old) (W.contents writer.new) (framed answer.now))
-        (λ why. IsWriting why × AppendsSome (W.contents writer.old) (W.contents writer.new) (framed answer.now)) }
-{
-    let mut len = Buffer::new();
-    write_part(writer, len.format(answer.len()).as_bytes())?;
-    write_part(writer, b"\n")?;
-    write_part(writer, answer)?;
-    match writer.flush() {
-        Ok(()) => Ok(()),
-        Err(error) => Err(TalkFault::Write(error)),
-    }
-}
-
-fn write_part<W: Write>(writer: &mut W, text: &[u8]) -> Result<(), TalkFault>
-    ensures { MatchResult result
-        (λ _. Appends (W.contents writer.old) (W.contents writer.new) text.now)
-        (λ why. IsWriting why × AppendsSome (W.contents writer.old) (W.contents writer.new) text.now) }
-{
-    match write_text(writer, text) {
-        Ok(()) => Ok(()),
-        Err(error) => Err(TalkFault::Write(error)),
-    }
 }

@@ -1,15 +1,17 @@
-//! One command of a conversation: it is read, executed and answered.
-ghost use Rattle.std.specs.Prelude.{◌≡◌, ◌+◌, true, IfOk, IfErr};
-ghost use Rattle.camp_talk.specs.Inside.ExecutingNext.{ExecutesNext};
-ghost use Rattle.camp_talk.specs.Talks.{HasGrown, ReadsNone, TakesStep};
+//! One command of a conversation: it is read and executed.
+ghost use Rattle.std.specs.Prelude.{◌≡◌, ◌+◌, ℕ, List, length, IfOk, IfErr};
+ghost use Rattle.camp_script.specs.Lines.{lines_of};
+ghost use Rattle.camp_talk.specs.Engine.Commands.{ExecutesCommand, IsReadAs};
+ghost use Rattle.camp_talk.specs.Inside.ExecutingNext.{ExecutesNext, IsResponse};
+ghost use Rattle.camp_talk.specs.Talks.{ReadsNone};
 
-use crate::answers::{respond, write_response};
-use crate::readings::{count_lines, read_command};
+use crate::answers::respond;
+use crate::readings::{Command, count_lines, read_command};
 use crate::responses::Response;
 use crate::{Diagnostic, TalkFault};
 use camp_repo::{Book, State};
 use std::alloc::Global;
-use std::io::{BufRead, Write};
+use std::io::BufRead;
 
 /// A command that was read and executed.
 #[derive(Drop)]
@@ -48,11 +50,8 @@ pub(crate) fn execute_next<R: BufRead>(
         Err(why) => return Err(why),
     };
     let is_whole = command.is_whole;
-    let Some(after) = lines.checked_add(count_lines(&command.bytes)) else {
-        drop(command);
-        return Err(TalkFault::Internal);
-    };
-    let response = respond(alloc, book, lines, diagnostic, command);
+    let mut after = lines;
+    let response = execute_command(alloc, book, &mut after, diagnostic, command)?;
     Ok(ExecutedCommand {
         response,
         line,
@@ -61,24 +60,26 @@ pub(crate) fn execute_next<R: BufRead>(
     })
 }
 
-/// Reads a command, executes it on a book at seat 0, writes its answer and flushes. True if there may be more, false if
-/// the input has ended. `lines` counts the lines that were read; after an error it is unchanged. `diagnostic` is that
-/// of the last fault or refusal.
-pub fn take_step<R: BufRead, W: Write>(
+/// Executes a command that was read on a book at seat 0. `lines` counts the lines up to it. If it has a fault or is
+/// refused, `diagnostic` becomes its diagnostic.
+pub fn execute_command(
     alloc: Global,
     book: &mut Book<State>,
     lines: &mut u64,
     diagnostic: &mut Diagnostic,
-    reader: &mut R,
-    writer: &mut W,
-) -> Result<bool, TalkFault>
-    ensures takes_step { TakesStep (R.remaining reader.old) (R.remaining reader.new) (W.contents writer.old) (W.contents writer.new)
-        (record { history = book.old; lines = lines.old; diagnostic = diagnostic.old })
+    command: Command,
+) -> Result<Response, TalkFault>
+    ensures executes { ExecutesCommand (record { history = book.old; lines = lines.old; diagnostic = diagnostic.old }) command
         result (record { history = book.new; lines = lines.new; diagnostic = diagnostic.new }) }
-    ensures counts { IfOk result (λ more. more ≡ true → HasGrown lines.old lines.new) }
+    ensures responds { IfOk result (λ response. (bytes : List ℕ) → IsReadAs command bytes
+        → IsResponse (record { history = book.old; lines = lines.old; diagnostic = diagnostic.old }) bytes response book.new diagnostic.new) }
+    ensures counts { IfOk result (λ response. lines.new ≡ lines.old + length (lines_of command.bytes.items)) }
 {
-    let executed = execute_next(alloc, book, *lines, diagnostic, reader)?;
-    write_response(writer, &executed.response)?;
-    *lines = executed.lines;
-    Ok(executed.is_whole)
+    let Some(after) = lines.checked_add(count_lines(&command.bytes)) else {
+        drop(command);
+        return Err(TalkFault::Internal);
+    };
+    let response = respond(alloc, book, *lines, diagnostic, command);
+    *lines = after;
+    Ok(response)
 }

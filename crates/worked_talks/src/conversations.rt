@@ -1,11 +1,16 @@
 //! One conversation: its commands, how its reader and writer behave, and its result.
 
 use bstr::ByteSlice;
-use camp_talk::{Book, FrameFault, FramedConversation, TalkFault, talk};
+use camp_talk::{
+    Book, FrameFault, FramedConversation, Frames, GroupLimits, Lines, Stop, TalkFault, run,
+};
 use std::alloc::{AllocError, Global};
 use std::io::{BufReader, ErrorKind, Write};
 use std::{io, str};
 use worked_ends::{Reader, Sizes, Writer};
+
+/// Each answer is written before the next command is read.
+const ONE_BY_ONE: GroupLimits = GroupLimits { calls: 1, bytes: 1 };
 
 #[derive(Clone, Copy)]
 enum Framing {
@@ -93,12 +98,26 @@ impl Conversation {
         let book = Book::new(alloc)?;
         let reader = BufReader::new(alloc, Reader::new(&self.commands, self.sizes))?;
         match self.framing {
-            Framing::Lines => Ok(talk(&mut camp_talk::Conversation::new(
-                alloc, book, reader, writer,
-            ))),
-            Framing::Frames => Ok(without_frames(talk(&mut FramedConversation::new(
-                alloc, book, reader, writer,
-            )))),
+            Framing::Lines => {
+                let mut backend = camp_talk::Conversation::new(alloc, book);
+                let mut lines = Lines::new(alloc, reader);
+                Ok(
+                    match run(alloc, &mut backend, &mut lines, writer, ONE_BY_ONE) {
+                        Ok(()) => Ok(()),
+                        Err(stop) => Err(talk_fault(stop)),
+                    },
+                )
+            }
+            Framing::Frames => {
+                let mut backend = FramedConversation::new(alloc, book);
+                let mut frames = Frames::new(alloc, reader);
+                Ok(
+                    match run(alloc, &mut backend, &mut frames, writer, ONE_BY_ONE) {
+                        Ok(()) => Ok(()),
+                        Err(stop) => Err(talk_fault(stop)),
+                    },
+                )
+            }
         }
     }
 }
@@ -113,12 +132,16 @@ fn print_fault<W: Write>(fault: TalkFault, count: usize, out: &mut W) -> io::Res
     }
 }
 
-/// Returns the fault of the conversation within a fault of its frames. The frames of a table are complete, so there
-/// always is one.
-fn without_frames(ended: Result<(), FrameFault>) -> Result<(), TalkFault> {
-    match ended {
-        Ok(()) => Ok(()),
-        Err(FrameFault::Talk(fault)) => Err(fault),
-        Err(_) => Err(TalkFault::Internal),
+/// Returns why a conversation stopped. The frames of a table are complete, so a fault of a frame is one of the
+/// conversation.
+fn talk_fault<H: Into<FrameFault>>(stop: Stop<TalkFault, TalkFault, H>) -> TalkFault {
+    match stop {
+        Stop::Commit(fault) | Stop::Execute(fault) => fault,
+        Stop::Write(error) => TalkFault::Write(error),
+        Stop::Internal => TalkFault::Internal,
+        Stop::Read(fault) => match fault.into() {
+            FrameFault::Talk(fault) => fault,
+            _ => TalkFault::Internal,
+        },
     }
 }

@@ -9,7 +9,3 @@ pub record BeginsWithFrame (bytes : List ℕ) : Type 0 where
   pub more : List ℕ
   pub is : IsFrame request frame
   pub begins : bytes ≡ frame ++ more
-
--- bytes were appended
-abbrev pub IsPartOf : List ℕ → List ℕ → Type 0
-IsPartOf old new = (more : List ℕ) × (new ≡ old ++ more)

@@ -24,7 +24,7 @@ HasSteps [] = ⊥
 HasSteps (step ∷ steps) = Unit {0}
 
 -- given the relations of a backend and of a framing
-module _ {B F Q A E H : Type 0} (backend : backends.Ghosts B Q A E) (framing : framings.Ghosts F Q A H) where
+module _ {B F Q A E C H : Type 0} (backend : backends.Ghosts B Q A E C) (framing : framings.Ghosts F Q A H) where
   -- a request was read, and then executed with this result
   pub record Executes (before : B) (from : F) (request : Q) (bytes : List ℕ) (result : Result A E) (after : B) (to : F) : Type 0 where
     pub reads : framing.reads from request bytes to
@@ -57,37 +57,32 @@ module _ {B F Q A E H : Type 0} (backend : backends.Ghosts B Q A E) (framing : f
     pub follows : ExecutesInOrder limits before from [] steps after to
     pub text_is : text ≡ responses steps
 
-  -- a request was read but not executed, for this reason
-  pub record FailsRequest (before : B) (from : F) (why : E) (after : B) (to : F) : Type 0 where
+  -- some request was read, and then executed with this result
+  pub record ExecutesOne (before : B) (from : F) (result : Result A E) (after : B) (to : F) : Type 0 where
     pub request : Q
     pub bytes : List ℕ
-    pub is : Executes before from request bytes (Err why) after to
-
-  -- a request was executed, and its response could not be buffered
-  pub record LosesResponse (before : B) (from : F) (after : B) (to : F) : Type 0 where
-    pub step : Step Q A
-    pub is : Executes before from step.request step.bytes (Ok step.response) after to
+    pub is : Executes before from request bytes result after to
 
   -- why a group has ended: a commit is due before more is read; the input has ended; a request could not be read or not
-  -- be executed; or its response could not be buffered
-  abbrev pub Halts : B → F → Halt E H → B → F → Type 0
+  -- be executed; or this response, of one that was executed, could not be buffered
+  abbrev pub Halts : B → F → Halt A E H → B → F → Type 0
   Halts before from halt.Pause after to = (before ≡ after) × (from ≡ to)
   Halts before from halt.End after to = (before ≡ after) × framing.ends from to
   Halts before from (halt.Read why) after to = (before ≡ after) × framing.breaks from why to
-  Halts before from (halt.Execute why) after to = FailsRequest before from why after to
-  Halts before from halt.Memory after to = LosesResponse before from after to
+  Halts before from (halt.Execute why) after to = ExecutesOne before from (Err why) after to
+  Halts before from (halt.Unbuffered response) after to = ExecutesOne before from (Ok response) after to
 
   -- a group that ends with a pause has a request; any other group ended when it could take one more
-  abbrev pub IsOver : Halt E H → List (Step Q A) → Type 0 → Type 0
+  abbrev pub IsOver : Halt A E H → List (Step Q A) → Type 0 → Type 0
   IsOver halt.Pause steps goes_on = HasSteps steps
   IsOver halt.End steps goes_on = IfSteps steps goes_on
   IsOver (halt.Read why) steps goes_on = IfSteps steps goes_on
   IsOver (halt.Execute why) steps goes_on = IfSteps steps goes_on
-  IsOver halt.Memory steps goes_on = IfSteps steps goes_on
+  IsOver (halt.Unbuffered response) steps goes_on = IfSteps steps goes_on
 
   -- a group: requests were read and executed, these bytes are written for their responses, and then it ended for this
   -- reason
-  pub record RunsGroup (limits : GroupLimits) (before : B) (from : F) (why : Halt E H) (after : B) (to : F) (text : List ℕ) : Type 0 where
+  pub record RunsGroup (limits : GroupLimits) (before : B) (from : F) (why : Halt A E H) (after : B) (to : F) (text : List ℕ) : Type 0 where
     pub middle : B
     pub at : F
     pub gathered : Gathered limits before from middle at text
@@ -95,16 +90,16 @@ module _ {B F Q A E H : Type 0} (backend : backends.Ghosts B Q A E) (framing : f
     pub is_over : IsOver why gathered.steps (MayGoOn limits middle at text)
 
   -- a group has ended for another reason than a pause
-  abbrev pub IsNoPause : Halt E H → Type 0
+  abbrev pub IsNoPause : Halt A E H → Type 0
   IsNoPause halt.Pause = ⊥
   IsNoPause halt.End = Unit {0}
   IsNoPause (halt.Read why) = Unit {0}
   IsNoPause (halt.Execute why) = Unit {0}
-  IsNoPause halt.Memory = Unit {0}
+  IsNoPause (halt.Unbuffered response) = Unit {0}
 
   -- None: a request was read and executed, and exactly its response was added to the pending bytes. Some: the group has
   -- ended for this reason, and the pending bytes are unchanged.
-  abbrev pub TakesOne : B → F → List ℕ → Option (Halt E H) → B → F → List ℕ → Type 0
+  abbrev pub TakesOne : B → F → List ℕ → Option (Halt A E H) → B → F → List ℕ → Type 0
   TakesOne before from old None after to new =
       (step : Step Q A) × Executes before from step.request step.bytes (Ok step.response) after to
       × (new ≡ old ++ framing.renders step.response)

@@ -8,8 +8,6 @@ use Rattle.camp_questions.specs.declared.faults.Unanswered.TheVariants as fault
 use Rattle.camp_script.specs.Texts.{reply_text}
 use Rattle.camp_script.specs.declared.faults.LineFault.{LineFault}
 use Rattle.camp_talk.specs.Answers.{memory_text}
-use Rattle.camp_talk.specs.declared.faults.TalkFault.{TalkFault}
-use Rattle.camp_talk.specs.declared.faults.TalkFault.TheVariants.{Internal, Memory, Read, Write}
 use Rattle.camp_talk.specs.declared.questions.ParsedCommand.{ParsedCommand}
 use Rattle.camp_talk.specs.declared.responses.Failure.{Failure}
 use Rattle.camp_talk.specs.declared.responses.Failure.TheVariants as failure
@@ -32,13 +30,6 @@ abbrev pub IsOutOfMemory : Response → Type 0
 IsOutOfMemory (Done answer) = ⊥
 IsOutOfMemory (Failed why answer) = ⊥
 IsOutOfMemory OutOfMemory = Unit {0}
-
--- the fault is one of the writer
-abbrev pub IsWriting : TalkFault → Type 0
-IsWriting Memory = ⊥
-IsWriting (Read error) = ⊥
-IsWriting (Write error) = Unit {0}
-IsWriting Internal = ⊥
 
 -- the result of a question is rendered, unless it is refused or memory runs out
 abbrev pub RendersFound : {A Z : Type 0} → (A → List ℕ) → Result A Unanswered → Result (Vec ℕ Z) Unanswered → Type 0

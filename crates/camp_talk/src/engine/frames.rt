@@ -1,17 +1,19 @@
 //! Requests in frames: each comes after a line with its number of bytes, and so does its response.
-ghost use Rattle.std.specs.Prelude.{◌≡◌, ◌++◌, List, IsTrue, OnErr, OnOk, ℕ};
+ghost use Rattle.std.specs.Prelude.{◌≡◌, IsTrue, MatchResult};
 ghost use Rattle.std.specs.Io.Buffered.{reader_buffer, reader_remaining};
-ghost use Rattle.camp_talk.specs.Engine.Framings.{BeginsWithFrame, IsPartOf};
+ghost use Rattle.std.specs.Io.KnownBytes.{Appends};
+ghost use Rattle.camp_talk.specs.Engine.Framings.{BeginsWithFrame};
 ghost use Rattle.camp_talk.specs.Frames.{IsFrame, ReadsNoFrame, framed};
 ghost use Rattle.camp_talk.specs.Inside.Framing.{ReadsNothing};
+ghost use Rattle.camp_talk.specs.Talks.{AppendsSome};
 
-use crate::FrameFault;
 use crate::engine::Framing;
 use crate::lines::line_len;
 use crate::serving::{read_request, request_len};
+use crate::{FrameFault, write_answer};
 use itoa::Buffer;
-use std::alloc::{AllocError, Global};
-use std::io::{BufReader, Read};
+use std::alloc::Global;
+use std::io::{self, BufReader, Read, Write};
 
 /// Reads requests in frames, and renders responses in frames.
 #[derive(Drop)]
@@ -48,8 +50,8 @@ impl<R: Read> Framing<Vec<u8>, Vec<u8>> for Frames<R> {
         read_request(self.alloc, &mut self.reader)
     }
 
-    fn write_response(&self, response: &Vec<u8>, pending: &mut Vec<u8>) -> Result<(), AllocError> {
-        append_frame(response, pending)
+    fn write_response<W: Write>(&self, response: &Vec<u8>, writer: &mut W) -> io::Result<()> {
+        write_frame(writer, response)
     }
 
     fn is_ready(&self) -> bool {
@@ -74,29 +76,14 @@ fn begin_with_frame(bytes: &[u8]) -> bool
     true
 }
 
-// Appends the frame of a response. If memory runs out, nothing is appended.
-fn append_frame(response: &[u8], pending: &mut Vec<u8>) -> Result<(), AllocError>
-    ensures appends { OnOk result (pending.new.items ≡ pending.old.items ++ framed response.now) }
-    ensures same { OnErr result (pending.new.items ≡ pending.old.items) }
-{
-    let start = pending.len();
-    match append_parts(response, pending) {
-        Ok(()) => Ok(()),
-        Err(error) => {
-            pending.truncate(start);
-            Err(error)
-        }
-    }
-}
-
-// Appends the frame of a response. If memory runs out, a part of it is appended.
-fn append_parts(response: &[u8], pending: &mut Vec<u8>) -> Result<(), AllocError>
-    ensures appends { OnOk result (pending.new.items ≡ pending.old.items ++ framed response.now) }
-    ensures some { OnErr result (IsPartOf pending.old.items pending.new.items) }
+// Writes the frame of a response. If the writer fails, a prefix of it was written.
+fn write_frame<W: Write>(writer: &mut W, response: &[u8]) -> io::Result<()>
+    ensures { MatchResult result
+        (λ _. Appends (W.contents writer.old) (W.contents writer.new) (framed response.now))
+        (λ _. AppendsSome (W.contents writer.old) (W.contents writer.new) (framed response.now)) }
 {
     let mut len = Buffer::new();
-    pending.extend_from_slice(len.format(response.len()).as_bytes())?;
-    pending.push(b'\n')?;
-    pending.extend_from_slice(response)?;
-    Ok(())
+    write_answer(writer, len.format(response.len()).as_bytes())?;
+    write_answer(writer, b"\n")?;
+    write_answer(writer, response)
 }

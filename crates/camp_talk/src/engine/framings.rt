@@ -1,8 +1,9 @@
 //! The trait of how requests are read and responses are written.
-ghost use Rattle.std.specs.Prelude.{◌≡◌, ◌++◌, ℕ, IfErr, IfOk, IsTrue, List, MatchOption, OnErr, OnOk, Option};
-ghost use Rattle.std.specs.Io.KnownBytes.{Consumes};
+ghost use Rattle.std.specs.Prelude.{ℕ, IfErr, IfOk, IsTrue, List, MatchOption, MatchResult, Option};
+ghost use Rattle.std.specs.Io.KnownBytes.{Appends, Consumes};
+ghost use Rattle.camp_talk.specs.Talks.{AppendsSome};
 
-use std::alloc::AllocError;
+use std::io::{self, Write};
 
 /// Reads requests from a reader, and renders responses for a writer.
 pub trait Framing<Q, A> {
@@ -33,10 +34,11 @@ pub trait Framing<Q, A> {
             (λ request. (bytes : List ℕ) × reads self.old request bytes self.new × Consumes (remaining self.old) (remaining self.new) bytes)) }
         ensures breaks { IfErr result (λ why. breaks self.old why self.new) };
 
-    /// Appends the bytes that are written for a response. If memory runs out, nothing is appended.
-    fn write_response(&self, response: &A, pending: &mut Vec<u8>) -> Result<(), AllocError>
-        ensures appends { OnOk result (pending.new.items ≡ pending.old.items ++ renders response.now) }
-        ensures same { OnErr result (pending.new.items ≡ pending.old.items) };
+    /// Writes a response. If the writer fails, a prefix of its bytes was written.
+    fn write_response<W: Write>(&self, response: &A, writer: &mut W) -> io::Result<()>
+        ensures writes { MatchResult result
+            (λ _. Appends (W.contents writer.old) (W.contents writer.new) (renders response.now))
+            (λ _. AppendsSome (W.contents writer.old) (W.contents writer.new) (renders response.now)) };
 
     /// True only if a complete request was read ahead, so that reading it does not wait for input.
     fn is_ready(&self) -> bool

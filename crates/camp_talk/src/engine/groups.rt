@@ -13,9 +13,9 @@ pub struct GroupLimits {
     pub bytes: usize,
 }
 
-/// Why a group has ended.
+/// Why a group has ended, as the contract of a conversation tells it.
 #[derive(Debug, Drop)]
-pub(crate) enum Halt<B, F> {
+pub enum Halt<A, B, F> {
     /// A commit is due before more is read.
     Pause,
     /// The input has ended.
@@ -24,18 +24,18 @@ pub(crate) enum Halt<B, F> {
     Read(F),
     /// A request was not executed.
     Execute(B),
-    /// A request was executed, and memory ran out for its response.
-    Memory,
+    /// A request was executed, and memory ran out for this response among the pending ones.
+    Unbuffered(A),
 }
 
 /// Reads and executes requests and buffers their responses, as long as a complete request was read ahead and little is
 /// pending. The first request is read in any case.
-pub(crate) fn gather<Q: Drop, A: Drop, B: Backend<Q, A>, F: Framing<Q, A>>(
+pub(crate) fn gather<Q, A: Drop, B: Backend<Q, A>, F: Framing<Q, A>>(
     backend: &mut B,
     framing: &mut F,
     pending: &mut Vec<u8>,
     limits: GroupLimits,
-) -> Halt<B::Fault, F::Fault>
+) -> Halt<A, B::Fault, F::Fault>
     requires { pending.old.items ≡ [] }
     ensures { RunsGroup B.Backend F.Framing limits backend.old framing.old result backend.new framing.new pending.new.items }
 {
@@ -55,11 +55,11 @@ pub(crate) fn gather<Q: Drop, A: Drop, B: Backend<Q, A>, F: Framing<Q, A>>(
 }
 
 // Reads and executes a request, and buffers its response. If the group has ended, returns why.
-fn take_one<Q: Drop, A: Drop, B: Backend<Q, A>, F: Framing<Q, A>>(
+fn take_one<Q, A: Drop, B: Backend<Q, A>, F: Framing<Q, A>>(
     backend: &mut B,
     framing: &mut F,
     pending: &mut Vec<u8>,
-) -> Option<Halt<B::Fault, F::Fault>>
+) -> Option<Halt<A, B::Fault, F::Fault>>
     ensures { TakesOne B.Backend F.Framing backend.old framing.old pending.old.items result backend.new framing.new pending.new.items }
 {
     let request = match framing.read_request() {
@@ -67,12 +67,16 @@ fn take_one<Q: Drop, A: Drop, B: Backend<Q, A>, F: Framing<Q, A>>(
         Ok(None) => return Some(Halt::End),
         Err(why) => return Some(Halt::Read(why)),
     };
-    let response = match backend.execute(&request) {
+    let response = match backend.execute(request) {
         Ok(response) => response,
         Err(why) => return Some(Halt::Execute(why)),
     };
+    let start = pending.len();
     match framing.write_response(&response, pending) {
         Ok(()) => None,
-        Err(_) => Some(Halt::Memory),
+        Err(_) => {
+            pending.truncate(start);
+            Some(Halt::Unbuffered(response))
+        }
     }
 }

@@ -1,6 +1,6 @@
 //! Running a conversation.
-ghost use Rattle.std.specs.Prelude.{◌≡◌, [], Err, MatchResult, OnOk};
-ghost use Rattle.camp_talk.specs.Engine.Runs.{FlushesGroup, IsCommitted, ResponsesAreDurable, RunsAll};
+ghost use Rattle.std.specs.Prelude.{◌≡◌, [], OnOk};
+ghost use Rattle.camp_talk.specs.Engine.Runs.{FlushesGroup, ResponsesAreDurable, RunsAll};
 
 use crate::engine::groups::{Halt, gather};
 use crate::engine::{Backend, Framing, GroupLimits};
@@ -10,18 +10,15 @@ use std::io::{self, Write};
 
 /// Why a conversation ended before its input did.
 #[derive(Debug, Drop)]
-pub enum Stop<B, F> {
+pub enum Stop<C, B, F> {
     /// A commit failed. No response of its group was written.
-    Commit(B),
+    Commit(C),
     /// The writer failed. Everything is committed, and a prefix of the responses was written.
     Write(io::Error),
     /// No request could be read. Everything is committed, and all responses were written.
     Read(F),
     /// A request was not executed. Everything is committed, and all other responses were written.
     Execute(B),
-    /// Memory ran out for the response to a request, which was executed. Everything is committed, and all other
-    /// responses were written.
-    Memory,
     /// There were 2^64 - 1 groups. No conversation reaches that.
     Internal,
 }
@@ -29,13 +26,13 @@ pub enum Stop<B, F> {
 /// Answers the requests of a framing, one after the other, until there are no more. Responses are buffered until
 /// everything that was executed before them is committed: before the framing has to wait for the next request, at the
 /// limits of a group, and at the end.
-pub fn run<Q: Drop, A: Drop, B: Backend<Q, A>, F: Framing<Q, A>, W: Write>(
+pub fn run<Q, A: Drop, B: Backend<Q, A>, F: Framing<Q, A>, W: Write>(
     alloc: Global,
     backend: &mut B,
     framing: &mut F,
     writer: &mut W,
     limits: GroupLimits,
-) -> Result<(), Stop<B::Fault, F::Fault>>
+) -> Result<(), Stop<B::CommitFault, B::Fault, F::Fault>>
     ensures { RunsAll B.Backend F.Framing limits backend.old framing.old (W.contents writer.old) result backend.new framing.new (W.contents writer.new) }
 {
     let mut pending = Vec::new(alloc);
@@ -49,23 +46,26 @@ pub fn run<Q: Drop, A: Drop, B: Backend<Q, A>, F: Framing<Q, A>, W: Write>(
             Halt::End => return Ok(()),
             Halt::Read(why) => return Err(Stop::Read(why)),
             Halt::Execute(why) => return Err(Stop::Execute(why)),
-            Halt::Memory => return Err(Stop::Memory),
+            Halt::Unbuffered(response) => {
+                if let Err(error) = framing.write_response(&response, writer) {
+                    return Err(Stop::Write(error));
+                }
+            }
         }
     }
     Err(Stop::Internal)
 }
 
-// Commits if there are calls to commit, and then writes what is pending and flushes. If the commit fails, nothing is
-// written.
+// Commits, and then writes what is pending and flushes. If the commit fails, nothing is written.
 fn commit_and_write<Q, A, H, B: Backend<Q, A>, W: Write>(
     backend: &mut B,
     pending: &mut Vec<u8>,
     writer: &mut W,
-) -> Result<(), Stop<B::Fault, H>>
+) -> Result<(), Stop<B::CommitFault, B::Fault, H>>
     ensures flushes { FlushesGroup B.Backend backend.old pending.old.items (W.contents writer.old) result backend.new (W.contents writer.new) }
     ensures empty { OnOk result (pending.new.items ≡ []) }
 {
-    if let Err(why) = commit_waiting(backend) {
+    if let Err(why) = backend.commit() {
         return Err(Stop::Commit(why));
     }
     match write_answer(writer, pending) {
@@ -77,18 +77,9 @@ fn commit_and_write<Q, A, H, B: Backend<Q, A>, W: Write>(
     }
 }
 
-// Commits if there are calls to commit.
-fn commit_waiting<Q, A, B: Backend<Q, A>>(backend: &mut B) -> Result<(), B::Fault>
-    ensures { MatchResult result (λ _. IsCommitted B.Backend backend.old backend.new) (λ why. B.commits backend.old (Err why) backend.new) }
-{
-    if backend.waiting() == 0 {
-        return Ok(());
-    }
-    backend.commit()
-}
-
 /// When responses are written, everything that was executed before is durable: after each group, and after a
-/// conversation in which no commit failed.
-pub fn responses_are_durable<Q: Drop, A: Drop, B: Backend<Q, A>, F: Framing<Q, A>>()
+/// conversation in which no commit failed. After one that failed, what the groups before have changed is durable up to
+/// that commit.
+pub fn responses_are_durable<Q, A: Drop, B: Backend<Q, A>, F: Framing<Q, A>>()
     ensures law { ResponsesAreDurable B.Backend F.Framing }
 {}

@@ -1,4 +1,4 @@
-use Rattle.camp_talk.proofs.Words.{◌≡◌, ◌∙◌, ℕ, List, false, first_of, lines_of, refl, subst, sym, SessionState}
+use Rattle.camp_talk.proofs.Words.{◌≡◌, ◌∙◌, ℕ, List, false, lines_of, refl, subst, sym, SessionState}
 use Rattle.camp_talk.proofs.StepLemmas.{done_responded, refused_responded}
 use Rattle.camp_talk.specs.Answers.{asks_nothing}
 use Rattle.camp_talk.specs.Inside.ExecutingNext.{RefusesRequest}
