@@ -1,9 +1,12 @@
 """Stops a program at each of its system calls, as a debugger does: the call can be failed or cut short, or the program killed
 there. For Linux on x86-64."""
 
+import contextlib
 import ctypes
+import dataclasses
 import os
 import platform
+import re
 import signal
 import struct
 
@@ -22,14 +25,15 @@ LIBC.ptrace.restype = ctypes.c_long
 LIBC.ptrace.argtypes = [ctypes.c_long, ctypes.c_long, ctypes.c_void_p, ctypes.c_void_p]
 
 
+@dataclasses.dataclass
 class Call:
     """A system call: its name (None: of no interest here), its file, what it writes at which offset, and so many bytes of that."""
 
-    def __init__(self, name, file=None, at=None, data=None, size=0):
-        self.name, self.file, self.at, self.data, self.size = name, file, at, data, size
-
-    def __repr__(self):
-        return f"{self.name} {self.file} at {self.at}: {self.data}"
+    name: str
+    file: str = None
+    at: int = None
+    data: bytes = None
+    size: int = 0
 
 
 def ptrace(request, pid, where=0, data=0):
@@ -65,33 +69,21 @@ def run(words, commands, alone=False, at_call=lambda number, call: None, folder=
         finally:
             os._exit(127)
     os.close(source)
-    input_left = Input(feed, commands if alone else [b"".join(commands)])
-    try:
-        input_left.send_next()
+    with os.fdopen(feed, "wb", buffering=0) as given:
+        left = sending(given, commands if alone else [b"".join(commands)])
+        next(left)
         if not alone:
-            input_left.close()
-        status, calls = follow(pid, input_left, at_call)
-    finally:
-        input_left.close()
+            given.close()
+        status, calls = follow(pid, left, at_call)
     return status, content(out), content(error), calls
 
 
-class Input:
-    """The commands that are still to be sent."""
-
-    def __init__(self, feed, commands):
-        self.feed, self.commands = feed, list(commands)
-
-    def send_next(self):
-        if self.feed is not None and self.commands:
-            os.write(self.feed, self.commands.pop(0))
-        else:
-            self.close()
-
-    def close(self):
-        if self.feed is not None:
-            os.close(self.feed)
-        self.feed = None
+def sending(given, commands):
+    """Sends a command at each step, and then ends the input."""
+    for it in commands:
+        given.write(it)
+        yield
+    given.close()
 
 
 def content(memory_file):
@@ -100,7 +92,7 @@ def content(memory_file):
         return file.read()
 
 
-def follow(pid, input_left, at_call):
+def follow(pid, left, at_call):
     """Lets the program run to its end. After each answer the next command is sent."""
     calls, number = [], 0
     os.waitpid(pid, 0)
@@ -121,7 +113,7 @@ def follow(pid, input_left, at_call):
             call.data = call.data and call.data[:result]
             calls.append(call)
             if (call.name, call.file) == ("write", "out"):
-                input_left.send_next()
+                next(left, None)
     return status, calls
 
 
@@ -170,13 +162,9 @@ def call_of(pid):
     name = NAMES.get(number)
     if name in (None, "unlink"):
         return Call(name)
-    try:
-        file = os.readlink(f"/proc/{pid}/fd/{first}")
-    except OSError:
-        file = ""
-    if file.startswith("/memfd:"):
-        file = file.split(":")[1].split()[0]
-    data = None
+    file, data = "", None
+    with contextlib.suppress(OSError):
+        file = re.sub(r"^/memfd:(\w+).*", r"\1", os.readlink(f"/proc/{pid}/fd/{first}"))
     if name in ("write", "pwrite"):
         with open(f"/proc/{pid}/mem", "rb", buffering=0) as memory:
             memory.seek(place)
