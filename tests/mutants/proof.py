@@ -114,7 +114,7 @@ class Trial:
         self.name = os.path.basename(check.crate)
 
     def try_all(self):
-        left = [it for it in self.mutants if it.can_be_applied]
+        left = [it for it in self.mutants if it.fault is None]
         left = self.try_together(left, controls_of(self.check.crate))
         for mutant in left:
             self.verdicts[mutant] = self.verdict_alone(mutant)
@@ -148,7 +148,7 @@ class Trial:
         unchanged = set(batch.unchanged(batch.functions))
         if not unchanged:
             return
-        printed = self.check.of(batch.texts, unchanged.union(*(it.asked for it in batch.mutants)))
+        printed = self.check.of(batch.texts, unchanged.union(*(it.asked() for it in batch.mutants)))
         self.checks += 1
         if not unchanged & functions_with(printed, "proved"):
             self.report.fail(f"{self.name}: {' or '.join(unchanged)} is not proved as it stands")
