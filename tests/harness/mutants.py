@@ -65,7 +65,8 @@ class Mutant:
             if times != 1:
                 self.fault = self.fault or f"{old!r} stands {times} times in {file}"
                 return None
-            function = function_at(texts[file], texts[file].index(old)) if file.endswith(".rt") else file
+            line = texts[file].count("\n", 0, texts[file].index(old)) + 1
+            function = function_at(texts[file], line) if file.endswith(".rt") else file
             if function:
                 self.functions.add(function)
                 self.files[function] = file
@@ -90,10 +91,9 @@ def times_named(function, text):
     return sum(it[0] == function for it in functions_in(text)) + bool(is_derived) + bool(takes_closure)
 
 
-def function_at(text, place):
-    """The function in which a place stands: the last one that begins at or before its line."""
-    end = text.find("\n", place)
-    return ([None] + [it[0] for it in functions_in(text[: end if end >= 0 else None])])[-1]
+def function_at(text, line):
+    """The function in which a line stands: the last one that begins there or before."""
+    return ([None] + [it[0] for it in functions_in("\n".join(text.split("\n")[:line]))])[-1]
 
 
 def path_of(function, file, crate):

@@ -15,12 +15,11 @@ proved with it; or no mutant: it can't be applied, or doesn't reach the prover. 
 import os
 import re
 import shutil
-import subprocess
 from collections import Counter
 
 from tests.harness import programs
-from tests.harness.checks import check_in_place, words_over
-from tests.harness.crates import uses_of
+from tests.harness.checks import check_in_place, printed_by, words_over
+from tests.harness.crates import reached, uses_of
 from tests.harness.folders import temporary
 from tests.harness.mutants import Mutant, functions_in, mutants_of, sources
 from tests.harness.paths import TOP, read_text, write_text
@@ -73,8 +72,7 @@ class Check:
         own = {file: read_text(f"{self.crate}/{file}") for file in texts}
         self.write(texts)
         words = [*self.words, *(it for name in sorted(functions) for it in ("--only", name))]
-        how = {"stdin": subprocess.DEVNULL, "stdout": subprocess.PIPE, "stderr": subprocess.STDOUT}
-        printed = subprocess.run(words, cwd=self.crate, **how).stdout.decode(errors="replace")
+        printed = printed_by(words, self.crate)
         self.write(own)
         return printed
 
@@ -191,14 +189,3 @@ def controls_of(crate):
         calls[name] |= {*CALL.findall(text), *(it for sign, it in SIGNS.items() if sign in text)} & set(names)
     alone = [it for it in known if names[it[0]] == 1 and it[1] != "trait" and "{}" not in it[2]]
     return [(name, reached(name, calls)) for name, _, _ in sorted(alone, key=lambda it: (len(it[2]), it[0]))]
-
-
-def reached(name, calls):
-    """The name, all that its function names, and those that these name."""
-    found, left = set(), [name]
-    while left:
-        it = left.pop()
-        if it not in found:
-            found.add(it)
-            left += calls[it]
-    return found
