@@ -4,8 +4,10 @@ Words: FILE ..: these scripts, or those in these folders; --random FIRST LAST: r
 Each branch is exported by `camp_shell --export` into `git fast-import`.
 """
 
+import io
 import os
 import shutil
+import tarfile
 import tempfile
 
 from tests.harness import programs
@@ -16,6 +18,8 @@ from tests.harness.scripts import script_of
 SECONDS, GATE = 14, "after camp_shell"
 # A branch of so many copies is asked in one conversation.
 STEP = 60
+# The mode of a file of mode 100644 in an archive.
+PLAIN = 0o664
 
 
 def run(report, words):
@@ -65,20 +69,10 @@ class Repository:
 
     def tree(self, commit):
         """The files of a commit: each path with its content; all are plain ones."""
-        paths, wanted = [], b""
-        for entry in self.git("ls-tree", "-r", "-z", commit.decode()).stdout.split(b"\0")[:-1]:
-            told, path = entry.split(b"\t", 1)
-            mode, kind, name = told.split()
-            assert (mode, kind) == (b"100644", b"blob"), entry
-            paths.append(path)
-            wanted += name + b"\n"
-        found, at, tree = self.git("cat-file", "--batch", given=wanted).stdout, 0, {}
-        for path in paths:
-            end = found.index(b"\n", at)
-            size = int(found[at:end].split()[2])
-            tree[path] = found[end + 1 : end + 1 + size]
-            at = end + size + 2
-        return tree
+        with tarfile.open(fileobj=io.BytesIO(self.git("archive", "--format=tar", f"{commit.decode()}^{{tree}}").stdout)) as archive:
+            files = [it for it in archive if not it.isdir()]
+            assert all(it.isreg() and it.mode == PLAIN for it in files), commit
+            return {os.fsencode(it.name): archive.extractfile(it).read() for it in files}
 
 
 def tree_of(lines):
