@@ -5,7 +5,7 @@ branches of their own, or on one branch, where every second name is one that eac
 """
 
 from tests.harness import programs
-from tests.harness.scripts import example_scripts, script_of, table_scripts
+from tests.harness.scripts import crowd, example_scripts, script_of, table_scripts
 
 SECONDS, GATE = 4, "after worked"
 # Clients, records of each, and whether all write one branch.
@@ -40,16 +40,6 @@ def compare(report, way, scripts, found, wanted):
     for script, *pair in zip(scripts, found, wanted):
         report.expect(f"{way.decode()}: {script[:60]!r}", *pair)
         report.count("runs")
-
-
-def crowd(clients, records, is_race):
-    """A script of clients with so many records of added files each."""
-    lines = [] if is_race else [f"branch c{client} main" for client in range(1, clients + 1)]
-    for client in range(1, clients + 1):
-        branch = "main" if is_race else f"c{client}"
-        owners = [0 if is_race and at % 2 == 0 else client for at in range(1, records + 1)]
-        lines += ["client", *(f"record {branch} p{owner}-{at} add f{owner}-{at}" for at, owner in enumerate(owners, 1))]
-    return "".join(f"{line}\n" for line in lines).encode()
 
 
 def histories(report, way, program, crowds, found):

@@ -11,6 +11,7 @@ import re
 from tests.harness import golden
 from tests.harness.camp import Camp
 from tests.harness.paths import DATA, EXAMPLES, TOP, read
+from tests.harness.scripts import crowd
 
 SECONDS, GATE = 16, "after camp"
 
@@ -95,7 +96,8 @@ def help_text(camp):
 def clients(camp):
     """Clients in threads, whose order is free: what all orders have in common is compared."""
     two_branches(camp)
-    script, calls = eight_clients()
+    script = crowd(8, 50, False)
+    calls = [it for it in script.decode().splitlines() if it != "client"]
     for flags in (["--history", "--tries", "1000"], ["--history", "--serial"]):
         every_call_once(camp, script, calls, flags)
     lost_calls(camp, script)
@@ -107,14 +109,6 @@ def two_branches(camp):
     done = camp.run(script)
     first, second = (4, 3) if done.stdout.split(b"\n")[3:4] == [b"ok 4"] else (3, 4)
     camp.expect("two branches", done, b"ok 1\nok 2\nclient 1\nok %d\nclient 2\nok %d\n" % (first, second))
-
-
-def eight_clients():
-    """Eight clients record 50 files each on branches of their own: the script, and its 408 calls."""
-    lines = [f"branch c{k} main" for k in range(1, 9)]
-    for k in range(1, 9):
-        lines += ["client", *(f"record c{k} n{k}-{i} add f{k}/{i}" for i in range(1, 51))]
-    return "".join(f"{it}\n" for it in lines).encode(), [it for it in lines if it != "client"]
 
 
 def every_call_once(camp, script, calls, flags):

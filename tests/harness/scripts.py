@@ -155,6 +155,16 @@ def changed(script, chance):
     return script
 
 
+def crowd(clients, records, is_race):
+    """A script of clients with so many records of added files each."""
+    lines = [] if is_race else [f"branch c{client} main" for client in range(1, clients + 1)]
+    for client in range(1, clients + 1):
+        branch = "main" if is_race else f"c{client}"
+        owners = [0 if is_race and at % 2 == 0 else client for at in range(1, records + 1)]
+        lines += ["client", *(f"record {branch} p{owner}-{at} add f{owner}-{at}" for at, owner in enumerate(owners, 1))]
+    return "".join(f"{line}\n" for line in lines).encode()
+
+
 def example_scripts():
     """The scripts of examples/ by their paths."""
     return {path: read(path) for path in sorted(glob.glob(f"{EXAMPLES}/*.camp"))}
