@@ -9,7 +9,7 @@ import time
 
 from tests.harness import golden, programs, sessions
 from tests.harness.paths import read, write
-from tests.harness.store import NO_STORE, Store, calls, encode, long_script, oks, title_with
+from tests.harness.store import NO_STORE, Store, calls, encode, long_script, oks
 
 SECONDS, GATE = 20, "after camp_shell"
 
@@ -22,25 +22,15 @@ def run(report, words):
 
 
 def titles(store):
-    """Stores whose making was cut short, with the longest title; and texts that are the first of no store, whose files stay as they are."""
-    path, title = store.path("titles"), title_with(16_777_216, 65_536)
-    made = b"~" + encode([title])[1:]
-    for end in (0, 1, 27, 64, len(made) - 1, len(made)):
-        write(path, made[:end])
-        store.expect(f"made up to {end}", store.run(path, calls(1)[0], allowing(16_777_216, 65_536)).stdout, b"ok 1\n")
-        store.expect(f"made up to {end}", read(path), encode([title, *calls(1)]))
-        store.count("beginnings")
+    """Texts that are the first of no store, whose files stay as they are."""
+    path = store.path("titles")
     for title in (golden.unescape(text) for (text,) in golden.rows("titles")):
         content = encode([title, *calls(1)])
-        for words in ((), allowing(2, 2)):
+        for words in ((), ("--limits", "catches=2,branches=2")):
             write(path, content)
             store.report.expect_run(f"{title}", store.run(path, calls(1, 1)[0], words), b"", f"camp_shell: {path}: {NO_STORE}\n".encode(), 3)
             store.expect(f"the file of {title}", read(path), content)
         store.count("other titles")
-
-
-def allowing(catches, branches):
-    return ("--limits", f"catches={catches},branches={branches}")
 
 
 def long(store):
