@@ -1,6 +1,6 @@
 """camp_shell's conversations are answered byte by byte: examples, short ones, loaded files, and lines at their limits.
 
-Words: examples, conversations, loads, lines, options, terminals name parts; none: all, and also a peer that waits for each answer, and many questions.
+Words: examples, conversations, loads, lines, peers, options, terminals name parts; none: all.
 """
 
 import os
@@ -9,7 +9,7 @@ import tempfile
 
 from tests.harness import golden, programs, sessions
 from tests.harness.conversation import ask
-from tests.harness.paths import DATA, EXAMPLES, TOP, read, write
+from tests.harness.paths import DATA, EXAMPLES, TOP, read
 from tests.harness.store import oks
 from tests.harness.terminal import Terminal
 
@@ -133,19 +133,22 @@ def pasted_side(shell, count):
 def loads(shell):
     """The cases of tests/data/loads: files, a command line, and what it writes."""
     sessions.play_all(shell.report, shell.program, "loads", "loads")
-    long_load(shell, programs.many(shell.program, 70_000))
+    count = programs.many(shell.program, 70_000)
+    long_load(shell, b"record main p add f\nobliterate main p\n" * (count // 2), oks(count), count + 1)
+    long_load(shell, b"names main\n" * count, b"names 0\n" * count, 1)
 
 
-def long_load(shell, count):
-    """A file with more writing commands than a section of a script may have is loaded, and the next command has the next number.
-    A conversation of as many is answered to its end."""
-    text, wanted = b"record main p add f\nobliterate main p\n" * (count // 2), b"ok %d\n" % (count + 1)
-    with tempfile.TemporaryDirectory(prefix="loads-") as folder:
-        write(f"{folder}/calls", text)
-        done = programs.run([shell.program, "--load", f"{folder}/calls"], b"branch last main\n")
-    shell.report.expect_run(f"--load of {count} calls", done, wanted)
-    shell.expect(f"a conversation of {count} calls", text + b"branch last main\n", oks(count) + wanted)
-    shell.report.count("calls that are loaded", count)
+def long_load(shell, commands, answers, number):
+    """More calls, or questions, than a section of a script may have: in a file that is loaded, and in a conversation; a call behind them
+    has this number."""
+    last, wanted = b"branch last main\n", b"ok %d\n" % number
+    with tempfile.NamedTemporaryFile() as file:
+        file.write(commands)
+        file.flush()
+        done = programs.run([shell.program, "--load", file.name], last)
+    shell.report.expect_run(f"--load of many commands as {commands[:20]!r}", done, wanted)
+    shell.expect(f"a conversation of many commands as {commands[:20]!r}", commands + last, answers + wanted)
+    shell.report.count("commands of long conversations", 2 * answers.count(b"\n"))
 
 
 def lines(shell):
@@ -171,7 +174,6 @@ def endless_line(shell):
 def peers(shell):
     blocked_input(shell)
     waiting_peer(shell, programs.many(shell.program, 10_000))
-    many_questions(shell, programs.many(shell.program, 70_000))
 
 
 def blocked_input(shell):
@@ -203,15 +205,3 @@ def waiting_peer(shell, count):
             expect("a refusal", ask(peer, b"names other\n"), b"refused 4 other\n")
     expect("the end", (*peer.communicate(timeout=programs.TIMEOUT), peer.returncode), (b"", b"", 0))
     shell.report.count("commands, each awaited", count)
-
-
-def many_questions(shell, count):
-    """More questions than a script may have calls, in a conversation and in a file that is loaded."""
-    questions = b"names main\n" * count
-    shell.expect("many questions", questions, b"names 0\n" * count)
-    with tempfile.NamedTemporaryFile() as file:
-        file.write(questions)
-        file.flush()
-        done = programs.run([shell.program, "--load", file.name], b"names main\n")
-    shell.report.expect_run("a load of many questions", done, b"names 0\n")
-    shell.report.count("questions", 2 * count)
