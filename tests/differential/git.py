@@ -11,7 +11,7 @@ import tarfile
 import tempfile
 
 from tests.harness import programs
-from tests.harness.conversation import responses
+from tests.harness.conversation import respond
 from tests.harness.paths import EXAMPLES, read, write
 from tests.harness.scripts import script_of
 
@@ -75,13 +75,18 @@ class Repository:
             return {os.fsencode(it.name): archive.extractfile(it).read() for it in files}
 
 
+def lines_of(response):
+    """The lines of a response after its first one."""
+    return response.split(b"\n")[1:-1]
+
+
 def tree_of(lines):
     """The files of a response to `tree`: each path with its content."""
-    files, at = {}, 0
-    while at < len(lines):
-        _, path, count = lines[at].split()
-        files[path] = b"".join(line[1:] + b"\n" for line in lines[at + 1 : at + 1 + int(count)])
-        at += 1 + int(count)
+    files = {}
+    while lines:
+        _, path, count = lines[0].split()
+        content, lines = lines[1 : 1 + int(count)], lines[1 + int(count) :]
+        files[path] = b"".join(line[1:] + b"\n" for line in content)
     return files
 
 
@@ -99,22 +104,19 @@ class Export:
 
     def ask(self, commands):
         """The responses of a conversation over the script's repository."""
-        done = programs.run([self.program, "--load", self.kept], b"".join(it + b"\n" for it in commands))
-        found = responses(done.stdout)
-        assert (done.returncode, len(found)) == (0, len(commands)), (self.name, done.stderr, len(found))
+        found = list(respond([self.program, "--load", self.kept], commands))
+        assert len(found) == len(commands), (self.name, found)
         return found
 
     def try_script(self, script):
         """The script may have faults and refusals: what is kept of a conversation is loaded then."""
         with tempfile.TemporaryDirectory(prefix="git-") as folder:
-            done = programs.run([self.program], script + b"\nend\ndone\nbranches\nkeep\n")
-            branches, kept = last_two(done.stdout)
+            _, branches, kept = respond([self.program], [script, b"branches", b"keep"])
             self.kept = f"{folder}/kept"
-            write(self.kept, b"".join(line + b"\n" for line in kept))
-            repository = Repository(f"{folder}/repository")
-            names = [lines for _, lines in self.ask([b"names " + it for it in branches])]
-            for branch, patches in zip(branches, names):
-                fault = self.fault_of(repository, branch, patches)
+            write(self.kept, kept.partition(b"\n")[2])
+            repository, branches = Repository(f"{folder}/repository"), lines_of(branches)
+            for branch, patches in zip(branches, self.ask([b"names " + it for it in branches])):
+                fault = self.fault_of(repository, branch, lines_of(patches))
                 if fault:
                     self.report.fail(f"{self.name}: {branch.decode()}: {fault}")
             self.check(repository)
@@ -136,8 +138,8 @@ class Export:
                 commands += [b"obliterate %s %s" % (copy, b" ".join(after))] if after else []
                 commands.append(b"tree " + copy)
             found = self.ask(commands)
-            assert {words[0] for words, _ in found} <= {b"ok", b"tree"}, found
-            trees += [tree_of(lines) for words, lines in found if words[0] == b"tree"]
+            assert all(it.startswith((b"ok ", b"tree ")) for it in found), found
+            trees += [tree_of(lines_of(it)) for it in found if it.startswith(b"tree ")]
         return trees
 
     def fault_of(self, repository, branch, names):
@@ -170,14 +172,3 @@ class Export:
             before = commit[0]
         self.report.count("commits", len(commits))
         return None
-
-
-def last_two(text):
-    """The lines of the last two responses of a conversation, to `branches` and `keep`."""
-    lines = text.split(b"\n")[:-1]
-    found = []
-    for word in (b"keep", b"branches"):
-        at = next(at for at in range(len(lines)) if lines[at] == b"%s %d" % (word, len(lines) - at - 1))
-        found.insert(0, lines[at + 1 :])
-        del lines[at:]
-    return found

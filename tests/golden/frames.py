@@ -4,6 +4,7 @@ import sys
 
 from tests.harness import golden, programs
 from tests.harness.camp import Program
+from tests.harness.conversation import frame
 from tests.harness.paths import EXAMPLES, read
 
 SECONDS, GATE = 6, "after camp_shell"
@@ -26,10 +27,6 @@ def run(report, words):
     shell.expect(f"{many} requests at once", ask(frame(b"names main") * many), frame(b"names 0\n") * many)
     waiting_peer(report, shell.program, programs.many(shell.program, 10_000))
     shell.expect("the client in Python", programs.run([sys.executable, CLIENT, shell.program]), read(f"{CLIENT}.stdout"))
-
-
-def frame(text):
-    return b"%d\n%b" % (len(text), text)
 
 
 def garbage(shell, ask):
