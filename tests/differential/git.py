@@ -4,6 +4,7 @@ Words: FILE ..: these scripts, or those in these folders; --random FIRST LAST: r
 Each branch is exported by `camp_shell --export` into `git fast-import`.
 """
 
+import glob
 import io
 import os
 import shutil
@@ -31,24 +32,15 @@ def run(report, words):
 
 
 def scripts(words):
-    if words[:1] == ["--random"]:
-        return random_scripts(int(words[1]), int(words[2]))
-    if words:
-        return of_files(words)
-    files = [f"{EXAMPLES}/{it}" for it in sorted(os.listdir(EXAMPLES)) if it.endswith((".camp", ".talk"))]
-    return [*of_files(files), *random_scripts(1, 50)]
-
-
-def random_scripts(first, last):
-    return ((f"random {seed}", script_of(seed)) for seed in range(first, last + 1))
-
-
-def of_files(names):
-    for name in names:
-        if os.path.isdir(name):
-            yield from of_files(f"{name}/{it}" for it in sorted(os.listdir(name)))
-        else:
-            yield name, read(name)
+    """The scripts, each with its name."""
+    is_random = words[:1] == ["--random"]
+    first, last = map(int, words[1:3]) if is_random else (1, 0 if words else 50)
+    files = [] if is_random else words or sorted(it for end in ("camp", "talk") for it in glob.glob(f"{EXAMPLES}/*.{end}"))
+    for name in files:
+        for path in sorted(glob.glob(f"{name}/**", recursive=True)) if os.path.isdir(name) else [name]:
+            if os.path.isfile(path):
+                yield path, read(path)
+    yield from ((f"random {seed}", script_of(seed)) for seed in range(first, last + 1))
 
 
 class Repository:
