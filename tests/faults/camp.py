@@ -19,16 +19,11 @@ BELOW, ABOVE, APART, LAST = 200, 20, 256, 100_000
 
 
 def run(report, words):
-    camp, parts = Program(report, "camp"), {"ends": ends, "memory": memory, "spaces": spaces}
+    camp = Program(report, "camp")
+    parts = {"ends": lambda camp: sessions.play_all(camp, "ends", "failing ends"), "memory": memory, "spaces": spaces}
     for name in words or ("ends", "memory"):
-        if name == "ends" or programs.is_plain(camp.program):
+        if name == "ends" or camp.has_spaces():
             parts[name](camp)
-        else:
-            report.skip("address spaces: the program was built without proofs, and its checks want terabytes of them")
-
-
-def ends(camp):
-    sessions.play_all(camp.report, camp.program, "ends", "failing ends")
 
 
 def memory(camp):

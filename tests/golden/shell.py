@@ -98,7 +98,7 @@ def conversations(shell):
 
 def loads(shell):
     """The cases of tests/data/loads: files, a command line, and what it writes."""
-    sessions.play_all(shell.report, shell.program, "loads", "loads")
+    sessions.play_all(shell, "loads", "loads")
     count = programs.many(shell.program, 70_000)
     long_load(shell, b"record main p add f\nobliterate main p\n" * (count // 2), oks(count), count + 1)
     long_load(shell, b"names main\n" * count, b"names 0\n" * count, 1)
@@ -129,8 +129,8 @@ def lines(shell):
 
 def endless_line(shell):
     """A line that does not end, in an address space without room for it."""
-    if not programs.is_plain(shell.program):
-        return shell.report.skip("address spaces: the program was built without proofs, and its checks want terabytes of them")
+    if not shell.has_spaces():
+        return
     words = programs.limited(["sh", "-c", 'head -c 400000000 /dev/zero | "$0"', shell.program], v=65536)
     shell.expect("a line of 400 MB", programs.run(words), b"fault 1 unknown command\n")
     shell.report.count("long conversations")

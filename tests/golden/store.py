@@ -15,7 +15,7 @@ SECONDS, GATE = 20, "after camp_shell"
 
 
 def run(report, words):
-    parts = {"sessions": lambda store: sessions.play_all(report, store.program, "stores", "sessions"), "titles": titles, "long": long}
+    parts = {"sessions": lambda store: sessions.play_all(store, "stores", "sessions"), "titles": titles, "long": long}
     for name in words or parts:
         with tempfile.TemporaryDirectory(prefix="store-") as folder:
             parts[name](Store(report, folder))

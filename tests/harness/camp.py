@@ -24,3 +24,10 @@ class Program:
         """A script is answered so, or has this fault, in each way."""
         for flags in ways:
             self.expect(" ".join([what, *flags]), self.run(script, flags), output, fault, 0 if fault is None else 1)
+
+    def has_spaces(self):
+        """Whether address spaces can be limited; else says why they are not tried."""
+        if not programs.is_plain(self.program):
+            self.report.skip("address spaces: the program was built without proofs, and its checks want terabytes of them")
+            return False
+        return True
