@@ -35,15 +35,12 @@ NAMES_WHAT_IS_GONE = re.compile(r"(\./)?proofs/.*(has no field|is not in scope|h
 
 
 def run(report, words):
-    tree = os.path.abspath(words[1]) if words[:1] == ["--over"] else None
-    wanted = {}
-    for word in words[2:] if tree else words:
-        crate, _, begin = word.partition("/")
-        wanted.setdefault(crate, []).append(begin)
-    crates = {name: [it for it in mutants_of(f"{TOP}/crates/{name}", not tree) if it[0].startswith(tuple(begins))]
-              for name, begins in (wanted or {it: [""] for it in uses_of()}).items()}
-    crates = {name: some for name, some in crates.items() if some}
-    for _ in programs.each(lambda name: try_crate(report, name, crates[name], tree), sorted(crates, key=lambda it: -len(crates[it]))):
+    tree, words = (os.path.abspath(words[1]), words[2:]) if words[:1] == ["--over"] else (None, words)
+    named = [it.partition("/")[::2] for it in words]
+    is_wanted = lambda crate, mutant: not named or any(crate == it and mutant.startswith(begin) for it, begin in named)
+    crates = {name: [it for it in mutants_of(f"{TOP}/crates/{name}", not tree) if is_wanted(name, it[0])] for name in uses_of()}
+    names = sorted((it for it in crates if crates[it]), key=lambda it: -len(crates[it]))
+    for _ in programs.each(lambda name: try_crate(report, name, crates[name], tree), names):
         report.count("crates")
 
 
@@ -57,28 +54,7 @@ def try_crate(report, name, mutants, tree):
         if not tree:
             shutil.copytree(f"{TOP}/crates/{name}/out/incremental", f"{folder}/{name}/kept")
         words = [*words_over(name, tree or TOP), "--jobs", "1", "--incremental", "kept"]
-        check = Check(f"{folder}/{name}", words)
-        Trial(report, check, [Mutant(*it, check.crate) for it in mutants]).try_all()
-
-
-class Check:
-    """Checks of a crate's folder, by a command."""
-
-    def __init__(self, crate, words):
-        self.crate, self.words = crate, words
-
-    def of(self, texts, functions=()):
-        """What a check prints with these texts in place of the crate's own: of some functions, or of the whole crate."""
-        own = {file: read_text(f"{self.crate}/{file}") for file in texts}
-        self.write(texts)
-        words = [*self.words, *(it for name in sorted(functions) for it in ("--only", name))]
-        printed = printed_by(words, self.crate)
-        self.write(own)
-        return printed
-
-    def write(self, texts):
-        for file, text in texts.items():
-            write_text(f"{self.crate}/{file}", text)
+        Trial(report, f"{folder}/{name}", words, mutants).try_all()
 
 
 class Batch:
@@ -105,15 +81,27 @@ class Batch:
 
 
 class Trial:
-    """The mutants of one crate, and the verdicts."""
+    """The mutants of one crate, the words of a check of it, and the verdicts."""
 
-    def __init__(self, report, check, mutants):
-        self.report, self.check, self.mutants, self.verdicts, self.checks = report, check, mutants, {}, 0
-        self.name = os.path.basename(check.crate)
+    def __init__(self, report, crate, words, mutants):
+        self.report, self.crate, self.words, self.verdicts, self.checks = report, crate, words, {}, 0
+        self.name, self.mutants = os.path.basename(crate), [Mutant(*it, crate) for it in mutants]
+
+    def check(self, texts, functions=()):
+        """What a check prints with these texts in place of the crate's own: of some functions, or of the whole crate."""
+        own = {file: read_text(f"{self.crate}/{file}") for file in texts}
+        self.write(texts)
+        printed = printed_by([*self.words, *(it for name in sorted(functions) for it in ("--only", name))], self.crate)
+        self.write(own)
+        return printed
+
+    def write(self, texts):
+        for file, text in texts.items():
+            write_text(f"{self.crate}/{file}", text)
 
     def try_all(self):
         left = [it for it in self.mutants if it.fault is None]
-        left = self.try_together(left, controls_of(self.check.crate))
+        left = self.try_together(left, controls_of(self.crate))
         for mutant in left:
             self.verdicts[mutant] = self.verdict_alone(mutant)
         for mutant in self.mutants:
@@ -146,7 +134,7 @@ class Trial:
         unchanged = set(batch.unchanged(batch.functions))
         if not unchanged:
             return
-        printed = self.check.of(batch.texts, unchanged.union(*(it.asked() for it in batch.mutants)))
+        printed = self.check(batch.texts, unchanged.union(*(it.asked() for it in batch.mutants)))
         self.checks += 1
         if not unchanged & functions_with(printed, "proved"):
             self.report.fail(f"{self.name}: {' or '.join(unchanged)} is not proved as it stands")
@@ -157,7 +145,7 @@ class Trial:
 
     def verdict_alone(self, mutant):
         """What a check of the whole crate says of the mutant alone."""
-        printed = self.check.of(mutant.applied_to({}))
+        printed = self.check(mutant.applied_to({}))
         if "logic=proved" in printed:
             return "let through"
         if "logic=not-proved" not in printed or not VERDICT.search(printed):
