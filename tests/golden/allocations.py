@@ -79,13 +79,6 @@ def count_of(program, row):
     return count - without if is_done else answer
 
 
-def seconds_of(program, table):
-    """The seconds of a processor that the program takes for a table."""
-    before = programs.used_seconds()
-    programs.run([program], table)
-    return programs.used_seconds() - before
-
-
 def run(report, words):
     text = read_text(f"{WORKED}/allocations")
     program = programs.path("worked")
@@ -96,6 +89,6 @@ def run(report, words):
         report.count("operations")
     for small, large, lines in GROWS.findall(text):
         table = "table x\nquiet\n" + lines.replace("; ", "\n") + "\n"
-        is_well = programs.is_in_proportion(lambda size: seconds_of(program, filled(table, size)), int(small), int(large))
+        is_well = programs.is_in_proportion(lambda size: programs.run([program], filled(table, size)), int(small), int(large))
         report.expect(f"{lines}: the time at {large} is in proportion to that at {small}", is_well, True)
         report.count("times")

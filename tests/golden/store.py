@@ -5,7 +5,6 @@ Words: sessions, titles, long name parts. The sessions are those of tests/data/s
 
 import os
 import tempfile
-import time
 
 from tests.harness import golden, programs, sessions
 from tests.harness.paths import read, write
@@ -34,37 +33,19 @@ def titles(store):
 
 
 def long(store):
-    """Stores of many calls, made in a pipe and opened again; their seconds. What a pipe takes of a processor grows with the calls."""
-    small, large = (programs.many(store.program, it) for it in (65_536, 300_000))
-    used = {small: [long_store(store, small)], large: [long_store(store, large)]}
-    is_well = programs.is_in_proportion(lambda size: used[size].pop() if used[size] else stored(store, size), small, large)
-    store.expect(f"the time to store {large} calls is in proportion to that for {small}", is_well, True)
+    """Stores of many calls, made in a pipe and opened again: what the pipe takes of a processor is in proportion to the calls."""
+    sizes = [programs.many(store.program, it) for it in (65_536, 300_000)]
+    is_well = programs.is_in_proportion(lambda number: stored(store, number), *sizes)
+    store.expect(f"the time to store {sizes[1]} calls is in proportion to that for {sizes[0]}", is_well, True)
+    for number in sizes:
+        path, size = store.path(f"long-{number}"), 27 + 13 + sum(map(len, long_script(number))) + 27 * number + 1
+        store.expect(f"{number} calls", (store.check(path), os.path.getsize(path)), (number, size))
+        store.expect(f"{number} calls, reopened", store.run(path, b"branch last main\n").stdout, b"ok %d\n" % (number + 1))
+        store.count("calls", number)
 
 
-def long_store(store, number):
-    """Stores so many calls, checks and reopens them, and returns the processor seconds of the first."""
-    path, load, what = store.path(f"long-{number}"), store.path("text"), f"{number} calls"
-    text = b"".join(long_script(number))
-    write(load, text)
-    used, started = [], [time.time()]
-    for step in (
-        lambda: programs.run([store.program, "--load", load]),
-        lambda: used.append(stored(store, number, path)),
-        lambda: store.expect(what, (store.check(path), os.path.getsize(path)), (number, 27 + 13 + len(text) + 27 * number + 1)),
-        lambda: store.expect(what, store.run(path, b"branch last main\n").stdout, b"ok %d\n" % (number + 1)),
-    ):
-        step()
-        started.append(time.time())
-    seconds = [end - start for start, end in zip(started, started[1:])]
-    store.report.note("{}: loaded in {:.2f} s, stored in {:.2f} s, checked in {:.2f} s, reopened in {:.2f} s".format(what, *seconds))
-    os.remove(path)
-    return used[0]
-
-
-def stored(store, number, path=None):
-    """Stores so many calls in a pipe, and returns the processor seconds."""
-    before, at = programs.used_seconds(), path or store.path("again")
-    store.expect(f"{number} calls", store.run(at, b"".join(long_script(number))).stdout, oks(number))
-    if path is None:
-        os.remove(at)
-    return programs.used_seconds() - before
+def stored(store, number):
+    path = store.path(f"long-{number}")
+    if os.path.exists(path):
+        os.remove(path)
+    store.expect(f"{number} calls", store.run(path, b"".join(long_script(number))).stdout, oks(number))
