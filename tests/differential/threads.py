@@ -4,8 +4,11 @@ Scripts of one section: examples, tests/data/answers and a hundred random ones. 
 branches of their own, or on one branch, where every second name is one that each of them takes.
 """
 
+import glob
+
 from tests.harness import programs
-from tests.harness.scripts import crowd, example_scripts, script_of, table_scripts
+from tests.harness.paths import EXAMPLES, read
+from tests.harness.scripts import crowd, script_of, table_scripts
 
 SECONDS, GATE = 4, "after worked"
 # Clients, records of each, and whether all write one branch.
@@ -14,7 +17,7 @@ CROWDS = ((8, 50, False), (63, 1, False), (2, 1000, True), (4, 1000, True), (63,
 
 def run(report, words):
     program = programs.path("worked")
-    known = [*example_scripts().values(), *table_scripts("answers"), *map(script_of, range(1, 101))]
+    known = [*map(read, sorted(glob.glob(f"{EXAMPLES}/*.camp"))), *table_scripts("answers"), *map(script_of, range(1, 101))]
     # A run of a table ends at an empty line, which a script may leave out.
     known = [b"".join(line + b"\n" for line in it.split(b"\n") if line) for it in known]
     scripts = [it for it in known if it and not any(line.split()[:1] == [b"client"] for line in it.split(b"\n"))]
