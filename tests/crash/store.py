@@ -81,7 +81,7 @@ def prepared(store, what):
     return path, first
 
 
-def trace(store, path, first, alone, at_call=lambda number, call: None):
+def trace(store, path, first, alone, at_call=lambda call: None):
     return tracing.run(store.words(path), calls(MORE, first), alone, at_call)
 
 
@@ -119,7 +119,7 @@ def in_turn(store, what, alone, is_met, decision):
         path, first = prepared(store, what)
         met = []
 
-        def at_call(number, call):
+        def at_call(call):
             if is_met(call):
                 met.append(call)
             return decision if is_met(call) and len(met) == turn + 1 else None
@@ -158,7 +158,7 @@ def cut_writes(store, what, alone, step):
         path, first = prepared(store, what)
         cut = []
 
-        def at_call(number, call):
+        def at_call(call):
             if call.name == "pwrite" and len(call.data) > length:
                 cut.append(call)
                 return "short", length
