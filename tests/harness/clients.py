@@ -73,12 +73,6 @@ class Clients:
             return False
         return True
 
-    def has_sanitizer(self):
-        return self.compiles("AddressSanitizer", "int main(void) { return 0; }\n", "-fsanitize=address")
-
-    def has_sqlite(self):
-        return self.compiles("SQLite's C library (libsqlite3-dev)", "#include <sqlite3.h>\nint main(void) { return !sqlite3_libversion(); }\n", "-lsqlite3")
-
     def compiles(self, what, text, flag):
         """Whether a program of C is compiled with a flag; else it says that this machine lacks it."""
         source = f"{self.folder}/main.c"
