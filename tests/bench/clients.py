@@ -19,10 +19,12 @@ def run(report, words):
         with Clients(report) as clients:
             if clients.is_built():
                 languages(clients)
-    program = programs.path("camp_shell")
-    for what, rate in (("in one go", lambda: at_once(report, program, 300_000)), ("each awaited", lambda: awaited(program, 50_000))):
-        report.note(f"a pipe: {max(rate() for _ in range(3)):.0f} a second, {what}")
-        report.count("figures")
+    program, question, answer = programs.path("camp_shell"), b"names other\n", b"refused 4 other\n"
+    many, fewer = (programs.many(program, it) for it in (300_000, 50_000))
+    in_one_go = max(at_once(report, [program], [question] * many, answer * many) for _ in range(3))
+    report.note(f"a pipe: {in_one_go:.0f} a second in one go")
+    report.note(f"a pipe: {max(awaited([program], [question] * fewer) for _ in range(3)):.0f} a second, each awaited")
+    report.count("figures", 2)
 
 
 def languages(clients):
@@ -45,20 +47,22 @@ def print_best(clients, language, times, words):
         clients.report.note(f"{language}: {what} {rate} a second")
 
 
-def at_once(report, program, count):
+def at_once(report, words, commands, wanted):
+    """Commands a second of a program that gets all at once."""
     started = time.time()
-    found = programs.run([program], b"names other\n" * count).stdout
-    rate = count / (time.time() - started)
-    report.expect("the answers", found, b"refused 4 other\n" * count)
+    found = programs.run(words, b"".join(commands)).stdout
+    rate = len(commands) / (time.time() - started)
+    report.expect("the answers", found, wanted)
     return rate
 
 
-def awaited(program, count):
-    peer = programs.start([program])
+def awaited(words, commands):
+    """Commands a second, each after the answer to the one before."""
+    peer = programs.start(words)
     started = time.time()
-    for _ in range(count):
-        os.write(peer.stdin.fileno(), b"names other\n")
+    for command in commands:
+        os.write(peer.stdin.fileno(), command)
         os.read(peer.stdout.fileno(), 100)
-    rate = count / (time.time() - started)
+    rate = len(commands) / (time.time() - started)
     peer.communicate(timeout=programs.TIMEOUT)
     return rate
