@@ -4,13 +4,12 @@ Words: sqlite, etcd, postgres name parts; none: all. A part whose engine is not 
 of camp.shared, in clients/python; the library is found as golden/clients finds it.
 """
 
-import os
 import re
 import sys
 from concurrent.futures import ThreadPoolExecutor
 
 from tests.harness import programs
-from tests.harness.clients import built_library
+from tests.harness.clients import python_client
 from tests.harness.etcd import servers
 from tests.harness.folders import temporary
 from tests.harness.paths import TOP
@@ -28,10 +27,9 @@ COUNTS = re.compile(rb"(?P<answers>\d+) answers, .* (?P<late_appends>\d+) late, 
 
 def run(report, words):
     parts = {"sqlite": sqlite, "etcd": etcd, "postgres": postgres}
-    library = built_library(report, makes=True)
-    if not library:
+    environment = python_client(report)
+    if not environment:
         return
-    environment = {**os.environ, "CAMP_LIB_DIR": library, "PYTHONDONTWRITEBYTECODE": "1"}
     with temporary("members-") as folder:
         for name in words or parts:
             parts[name](report, folder, environment)

@@ -3,16 +3,14 @@
 Words: slow, foreign, lost, large, full name parts. It needs the library for C; without etcd its parts are skipped.
 """
 
-import os
 import random
 import sqlite3
 import sys
 
 from tests.faults.logs import MEMBER, Members, ask, check, code, replay
 from tests.harness import etcd, programs
-from tests.harness.clients import built_library
+from tests.harness.clients import python_client
 from tests.harness.folders import temporary
-from tests.harness.paths import TOP
 from tests.harness.proxy import FATES, Proxy
 
 SECONDS, GATE = 60, "never"
@@ -80,16 +78,14 @@ LIMITS, BALLAST = {"ETCD_QUOTA_BACKEND_BYTES": "3000000", "ETCD_MAX_REQUEST_BYTE
 
 
 def run(report, words):
-    library = built_library(report, makes=True)
-    if not library:
-        return report.skip("the library for C")
+    environment = python_client(report)
+    if not environment:
+        return
     # Where etcd was full it no longer knows how entries came.
     parts = {"slow": slow, "foreign": foreign, "lost": lost, "large": large, "full": full}
-    # Beside proofs a log may get little of a processor.
-    client = {"PYTHONPATH": f"{TOP}/clients/python", "PYTHONDONTWRITEBYTECODE": "1", "CAMP_LIB_DIR": library, "CAMP_PATIENCE": "300"}
     with temporary("engines-") as folder, etcd.servers(report, folder, **LIMITS) as endpoints:
         for name in words or parts:
-            parts[name](report, folder, {**os.environ, **client}, endpoints)
+            parts[name](report, folder, environment, endpoints)
 
 
 def slow(report, folder, environment, _):

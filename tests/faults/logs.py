@@ -18,9 +18,9 @@ import time
 import urllib.request
 
 from tests.harness import etcd, programs
-from tests.harness.clients import built_library
+from tests.harness.clients import python_client
 from tests.harness.folders import temporary
-from tests.harness.paths import TOP, read
+from tests.harness.paths import read
 
 SECONDS, GATE = 90, "after camp_c"
 # How many members run at once, how many are killed, and between which seconds.
@@ -83,16 +83,14 @@ except Stopped as error:
 
 
 def run(report, words):
-    library = built_library(report, makes=True)
-    if not library:
-        return report.skip("the library for C")
+    environment = python_client(report)
+    if not environment:
+        return
     number = next((int(it) for it in words if it.isdigit()), KILLS)
     parts = {"kills": kills, "servers": servers, "entries": entries}
-    # Beside proofs a log may get little of a processor.
-    client = {"PYTHONPATH": f"{TOP}/clients/python", "PYTHONDONTWRITEBYTECODE": "1", "CAMP_LIB_DIR": library, "CAMP_PATIENCE": "300"}
     for name in [it for it in words if it in parts] or parts:
         with temporary("logs-") as folder:
-            parts[name](report, folder, {**os.environ, **client}, number)
+            parts[name](report, folder, environment, number)
 
 
 class Members:

@@ -3,14 +3,12 @@
 Words: none. It needs the library for C, etcd, root and the command ip, and is skipped without them.
 """
 
-import os
 import time
 
 from tests.faults.logs import Members, check
-from tests.harness.clients import built_library
+from tests.harness.clients import python_client
 from tests.harness.folders import temporary
 from tests.harness.networks import Networks, is_there
-from tests.harness.paths import TOP
 
 SECONDS, GATE = 220, "never"
 # Nobody reaches any member for so many seconds.
@@ -18,14 +16,14 @@ ALONE = 5
 
 
 def run(report, words):
-    library = built_library(report, makes=True)
-    if not library or not is_there():
-        return report.skip("the library for C, or networks of one's own")
-    # Beside proofs a log may get little of a processor.
-    client = {"PYTHONPATH": f"{TOP}/clients/python", "PYTHONDONTWRITEBYTECODE": "1", "CAMP_LIB_DIR": library, "CAMP_PATIENCE": "300"}
+    if not is_there():
+        return report.skip("networks of one's own")
+    environment = python_client(report)
+    if not environment:
+        return
     with temporary("networks-") as folder, Networks(folder) as networks:
         networks.leader()
-        members = Members(f"etcd:{','.join(networks.endpoints)}/log", folder, {**os.environ, **client}, within=networks.within)
+        members = Members(f"etcd:{','.join(networks.endpoints)}/log", folder, environment, within=networks.within)
         try:
             report.expect("members answer", members.wait(1), "")
             cut_links(report, networks, members)

@@ -10,7 +10,7 @@ import sqlite3
 import sys
 
 from tests.harness import etcd, programs
-from tests.harness.clients import built_library
+from tests.harness.clients import python_client
 from tests.harness.folders import temporary
 from tests.harness.paths import TOP, read_text, write_text
 from tests.harness.terminal import run_together
@@ -32,13 +32,10 @@ WRONG = {
 
 
 def run(report, words):
-    library = built_library(report, makes=True)
-    if not library:
-        return report.skip("the library for C")
     with temporary("shared-") as folder:
-        client = {"PYTHONPATH": f"{TOP}/clients/python", "PYTHONDONTWRITEBYTECODE": "1", "CAMP_LIB_DIR": library}
-        # Beside proofs a log may get little of a processor.
-        environment = {**os.environ, **client, "CAMP_PATIENCE": "120", "HOME": folder, "TERM": "xterm", "NO_COLOR": "1", "LC_ALL": "C.UTF-8"}
+        environment = python_client(report, CAMP_PATIENCE="120", HOME=folder, TERM="xterm", NO_COLOR="1", LC_ALL="C.UTF-8")
+        if not environment:
+            return
         for text in re.findall(r"^```terminals\n(.*?)^```$", read_text(PAGE), re.M | re.S):
             report.expect("docs/shared.md", run_together(text, environment, folder), [])
             report.count("lines of two terminals", text.count("\n"))

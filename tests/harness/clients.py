@@ -37,6 +37,16 @@ def built_library(report, makes=False):
     return folder
 
 
+def python_client(report, **more):
+    """The environment of programs in Python over the library; None where it is not here, which is noted. Beside proofs a log may get little
+    of a processor."""
+    library = built_library(report, makes=True)
+    if not library:
+        return report.skip("the library for C")
+    client = {"PYTHONPATH": f"{TOP}/clients/python", "PYTHONDONTWRITEBYTECODE": "1", "CAMP_LIB_DIR": library, "CAMP_PATIENCE": "300"}
+    return {**os.environ, **client, **more}
+
+
 class Clients:
     """The folder of the library, a folder for what is built, and the report of a test."""
 
