@@ -7,6 +7,7 @@ patches then, `annotate` has to agree on each file. And each line of each branch
 """
 
 import itertools
+import re
 
 from tests.harness import programs
 from tests.harness.conversation import respond
@@ -69,13 +70,7 @@ class History:
 
 def new_sides(shown):
     """The lines that the edits of a patch put into each file."""
-    sides, path = {}, None
-    for line in shown.split("\n"):
-        words = line.split()
-        if path is None and words[:1] == ["edit"]:
-            path = words[1]
-        elif path is not None and line == "end":
-            path = None
-        elif path is not None and line.startswith("+"):
-            sides.setdefault(path, set()).add(line[1:])
+    sides = {}
+    for path, body in re.findall(r"^edit (\S+) .*\n((?:[-+].*\n)*)end$", shown, re.M):
+        sides.setdefault(path, set()).update(it[1:] for it in body.split("\n") if it.startswith("+"))
     return sides

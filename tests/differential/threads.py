@@ -5,6 +5,7 @@ branches of their own, or on one branch, where every second name is one that eac
 """
 
 import glob
+import re
 
 from tests.harness import programs
 from tests.harness.paths import EXAMPLES, read
@@ -48,24 +49,19 @@ def compare(report, way, scripts, found, wanted):
 def histories(report, way, program, crowds, found):
     report.expect(f"{way.decode()}: histories", len(found), len(crowds))
     for script, told in zip(crowds, found):
-        lines = told[len(script) :].decode().splitlines()
-        end = next(at for at, line in enumerate(lines) if line.startswith("history "))
-        rows = [line.split(" ", 2) for line in lines[end + 1 :] if line]
+        given, history = re.split(r"^history .*\n", told[len(script) :].decode(), maxsplit=1, flags=re.M)
+        rows = [line.split(" ", 2) for line in history.splitlines() if line]
         what = f"{way.decode()}: {script.count(b'client')} clients"
-        report.expect(f"{what}: each client's calls", numbers_of(lines[:end]), {seat: [at for at, it, _ in rows if it == seat] for _, seat, _ in rows})
+        report.expect(f"{what}: each client's calls", numbers_of(given), {seat: [at for at, it, _ in rows if it == seat] for _, seat, _ in rows})
         again = "".join(f"{call}\n" for _, _, call in rows).encode()
         accepted = b"".join(b"ok %d\n" % at for at in range(1, len(rows) + 1)) + b"history "
         report.expect(f"{what}: the history again", answers(program, b"book", [again])[0][len(again) :][: len(accepted)], accepted)
         report.count("histories")
 
 
-def numbers_of(lines):
+def numbers_of(answers):
     """The numbers of the calls that each seat is answered."""
-    seats, seat = {}, "0"
-    for line in lines:
-        word, number = line.split()[:2]
-        if word == "client":
-            seat = number
-        elif word == "ok":
-            seats.setdefault(seat, []).append(number)
-    return seats
+    first, *others = re.split(r"^client (\d+)\n", answers, flags=re.M)
+    seats = {"0": first, **dict(zip(others[::2], others[1::2]))}
+    found = {seat: re.findall(r"^ok (\d+)$", text, re.M) for seat, text in seats.items()}
+    return {seat: numbers for seat, numbers in found.items() if numbers}

@@ -7,7 +7,7 @@ import subprocess
 import tempfile
 
 from tests.harness import programs, unproved
-from tests.harness.paths import TOP, read
+from tests.harness.paths import TOP, read, write_text
 
 WARNINGS = ["-std=c11", "-D_GNU_SOURCE", "-Wall", "-Wextra", "-Werror", "-O2"]
 
@@ -86,8 +86,7 @@ class Clients:
     def compiles(self, what, text, flag):
         """Whether a program of C is compiled with a flag; else it says that this machine lacks it."""
         source = f"{self.folder}/main.c"
-        with open(source, "w", encoding="ascii") as file:
-            file.write(text)
+        write_text(source, text)
         if self.succeeds(["cc", source, flag, "-o", f"{self.folder}/main"]):
             return True
         self.report.skip(what)

@@ -131,8 +131,7 @@ def spare_processors(process):
             if read(f"/proc/{child}/cmdline").split(b"\0")[1:2] == [b"check"]:
                 os.kill(child, signal.SIGKILL)
             else:
-                with open(f"/proc/{child}/autogroup", "w", encoding="ascii") as file:
-                    file.write(str(os.nice(0)))
+                write_text(f"/proc/{child}/autogroup", str(os.nice(0)))
 
 
 def seconds_file(name):
