@@ -7,7 +7,7 @@ Of each table of crates/worked whose heads keep none, the heads are made with a 
 import re
 
 from tests.harness import programs
-from tests.harness.paths import WORKED, read
+from tests.harness.worked import tables
 
 SECONDS, GATE = 3, "after worked"
 GREAT = b"table seats-of-a-great-head\nhead 64 65536 1 1\n63 names main\n"
@@ -15,29 +15,20 @@ GREAT = b"table seats-of-a-great-head\nhead 64 65536 1 1\n63 names main\n"
 
 def run(report, words):
     program = programs.path("worked")
-    given, wanted = read(f"{WORKED}/stdin"), read(f"{WORKED}/stdout")
+    given, wanted = tables("stdin"), tables("stdout")
     for every in (1, 2, 64):
-        table = with_snapshots(given, every, 0)
+        table = with_snapshots(given, every)
         report.count("heads", len(re.findall(rb"^head .* %d$" % every, table, re.M)))
         found = programs.run([program], table).stdout
-        report.expect(f"a snapshot for each {every} calls", found, with_snapshots(wanted, every, 1))
+        report.expect(f"a snapshot for each {every} calls", found, with_snapshots(wanted, every))
     great_head(report, program)
 
 
-def with_snapshots(text, every, answers):
-    """The tables of seats, with a snapshot for so many calls at each head that has none, and without the lines `adopted`, after
-    which so many lines of answers stand."""
-    found, is_seats, skip = [], False, 0
-    for line in text.splitlines(keepends=True):
-        if line.startswith(b"table "):
-            is_seats = line.split()[1].startswith((b"seats", b"memory-seats"))
-        if not is_seats or skip:
-            skip = max(0, skip - 1)
-        elif re.fullmatch(rb"adopted \d+\n", line):
-            skip = answers
-        else:
-            found.append(re.sub(rb"^(head \d+ \d+ \d+) 0$", rb"\1 %d" % every, line))
-    return b"".join(found)
+def with_snapshots(found, every):
+    """The tables of seats, with a snapshot for so many calls at each head that has none, and without the lines `adopted`."""
+    text = b"".join(table for name, table in found.items() if name.startswith(("seats", "memory-seats")))
+    text = re.sub(rb"^adopted \d+\n", b"", text, flags=re.M)
+    return re.sub(rb"^(head \d+ \d+ \d+) 0$", rb"\1 %d" % every, text, flags=re.M)
 
 
 def great_head(report, program):
