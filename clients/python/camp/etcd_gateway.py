@@ -3,8 +3,10 @@ import base64
 import contextlib
 import http.client
 import json
+import select
 import threading
-from typing import Dict, Iterator, Sequence, Tuple
+import time
+from typing import Dict, List, Sequence, Tuple
 
 from .logs import TIMEOUT, Away
 
@@ -45,11 +47,9 @@ class Gateway:
             self.take_next()
         raise Away("no endpoint of etcd answers")
 
-    def lines(self, path: str, asked: Dict, timeout: float) -> Iterator[bytes]:
+    def lines(self, path: str, asked: Dict, timeout: float) -> "Lines":
         """The lines of an answer that goes on."""
-        response = _post(http.client.HTTPConnection(self._endpoint(), timeout=timeout), path, asked)
-        while line := response.readline():
-            yield line
+        return Lines(_post(http.client.HTTPConnection(self._endpoint(), timeout=timeout), path, asked))
 
     def take_next(self) -> None:
         """The next request goes to another endpoint."""
@@ -67,3 +67,38 @@ class Gateway:
 def _post(connection: http.client.HTTPConnection, path: str, asked: Dict) -> http.client.HTTPResponse:
     connection.request("POST", "/v3/" + path, json.dumps(asked).encode(), {"Content-Type": "application/json"})
     return connection.getresponse()
+
+
+class Lines:
+    """The lines of an answer that goes on; `heard` is when something came last."""
+
+    def __init__(self, response: http.client.HTTPResponse):
+        self._response, self._poll, self._rest = response, select.poll(), b""
+        self._poll.register(response.fp, select.POLLIN)
+        # What was read together with the head is not seen by `poll`.
+        self._found, self.heard = bytearray(self._response.fp.read1(1 << 16)), time.monotonic()
+
+    def next(self, seconds: float) -> List[bytes]:
+        """The lines that come next, within so many seconds."""
+        lines = self._split()
+        if not lines and self._poll.poll(1000 * max(seconds, 0.0)):
+            found = self._response.fp.read1(1 << 16)
+            if not found:
+                raise ConnectionError("the answer has ended")
+            self._found += found
+            self.heard, lines = time.monotonic(), self._split()
+        return lines
+
+    def _split(self) -> List[bytes]:
+        """The lines of what was read: of whole chunks, if it comes in chunks."""
+        while self._response.chunked and (end := self._found.find(b"\r\n")) > 0:
+            size = int(self._found[:end], 16)
+            if len(self._found) < end + size + 4:
+                break
+            self._rest += self._found[end + 2:end + 2 + size]
+            del self._found[:end + size + 4]
+        if not self._response.chunked:
+            self._rest += self._found
+            self._found.clear()
+        *lines, self._rest = self._rest.split(b"\n")
+        return lines

@@ -3,10 +3,14 @@ import base64
 import contextlib
 import json
 import threading
-from typing import Dict, List, Sequence
+import time
+from typing import Callable, Dict, List, Sequence
 
 from .etcd_gateway import NO_ANSWER, Gateway, coded
 from .logs import TITLE, AppendOutcome, Away, Damaged, default_patience, write_title
+
+# An endpoint that has sent nothing for so many seconds is left; pause before another one is asked.
+SILENCE, PAUSE = 2.0, 0.01
 
 
 class EtcdLog:
@@ -14,18 +18,16 @@ class EtcdLog:
     a removed one shows. They come by a watch, and after all that was done to them before comes a key that who opens the log writes."""
 
     def __init__(self, endpoints: Sequence[str], prefix: str, title: bytes = TITLE):
-        self._gateway, self.prefix = Gateway(endpoints), prefix.encode()
+        self._gateway, self.prefix, self._lock = Gateway(endpoints), prefix.encode(), threading.Lock()
         self._range = {"key": coded(self.prefix + b"/entries/"), "range_end": coded(self.prefix + b"/entries0")}
         self._count, self._opened = coded(self.prefix + b"/count"), coded(self.prefix + b"/opened")
-        self._entries, self._revision, self._damaged, self._closed = [], 0, None, False
+        self._entries, self._revision, self._damaged, self._watch = [], 0, None, None
         # The revisions of what was written when it was opened, and last.
         self._first, self._written = 0, 0
-        self._changed = threading.Condition()
         write_title(self, title)
         # Where etcd is full, or is read-only, the log can be read all the same.
         with contextlib.suppress(Away):
             self._first = int(self._gateway.ask("kv/put", {"key": self._opened, "value": ""})["header"]["revision"])
-        threading.Thread(target=self._follow, daemon=True).start()
 
     def append(self, tag: str, text: bytes) -> AppendOutcome:
         key = coded(self.prefix + b"/entries/" + tag.encode())
@@ -46,9 +48,8 @@ class EtcdLog:
         return AppendOutcome.UNKNOWN
 
     def read(self, index: int, wait: float = 0.0) -> List[bytes]:
-        with self._changed:
-            is_there = lambda: len(self._entries) > index and self._revision >= self._written
-            self._changed.wait_for(lambda: is_there() or self._damaged is not None, wait)
+        with self._lock:
+            self._follow(lambda: len(self._entries) > index and self._revision >= self._written, wait)
             if len(self._entries) <= index and self._damaged is not None:
                 raise Damaged(self._damaged)
             return self._entries[index:index + 1024]
@@ -56,42 +57,56 @@ class EtcdLog:
     def length(self) -> int:
         """How many entries were counted; more than can be read where one was changed or removed, at least if that was before this was opened."""
         found = self._gateway.ask("kv/range", {"key": self._count}).get("kvs", [])
-        with self._changed:
+        with self._lock:
             while (seen := self._revision) < self._first and self._damaged is None:
-                if not self._changed.wait_for(lambda: self._revision > seen or self._damaged is not None, default_patience()):
+                if not self._follow(lambda: self._revision > seen, default_patience()):
                     raise Away("etcd does not send the entries of the log")
+            # What came meanwhile may say that an entry was changed.
+            self._follow(lambda: False, 0.0)
             return max(int(found[0]["version"]) if found else 0, 0 if self._damaged is None else self._damaged + 1)
 
     def close(self) -> None:
-        self._closed = True
+        self._watch = None
         self._gateway.close()
 
-    def _follow(self) -> None:
-        """Watches the entries, from the first one that is not known."""
-        while not self._closed and self._damaged is None:
-            watch = {**self._range, "range_end": coded(self.prefix + b"/opened0"), "start_revision": str(self._revision + 1)}
-            with contextlib.suppress(*NO_ANSWER):
-                for line in self._gateway.lines("watch", {"create_request": watch}, 2.0):
-                    found = json.loads(line).get("result", {})
-                    self._take(found)
-                    if found.get("canceled") or self._damaged is not None:
-                        break
-            self._gateway.take_next()
+    def _follow(self, is_so: Callable[[], bool], seconds: float) -> bool:
+        """Reads what the watch says until something is so, an entry is damaged, or that many seconds are over. The lock is held."""
+        end = time.monotonic() + seconds
+        while not (is_so() or self._damaged is not None):
+            left = end - time.monotonic()
+            if not self._read_on(left) and left <= 0:
+                return False
+        return True
 
-    def _take(self, response: Dict) -> None:
-        with self._changed:
-            if "compact_revision" in response:
-                self._load()
-            for event in response.get("events", []):
-                kv = event["kv"]
-                self._revision = int(kv["mod_revision"])
-                if kv["key"] == self._opened:
-                    continue
-                if event.get("type", "PUT") != "PUT" or kv.get("version") != "1":
-                    self._damaged = len(self._entries)
-                    break
-                self._entries.append(base64.b64decode(kv.get("value", "")))
-            self._changed.notify_all()
+    def _read_on(self, seconds: float) -> bool:
+        """Takes what the watch says next, within so many seconds; whether it says something. It begins with the first entry that is not known."""
+        with contextlib.suppress(*NO_ANSWER):
+            if self._watch is None:
+                watch = {**self._range, "range_end": coded(self.prefix + b"/opened0"), "start_revision": str(self._revision + 1)}
+                self._watch = self._gateway.lines("watch", {"create_request": watch}, SILENCE)
+            lines = self._watch.next(min(seconds, SILENCE))
+            is_silent = 0 < seconds and self._watch.heard + SILENCE < time.monotonic()
+            if all(self._take(json.loads(line).get("result", {})) for line in lines) and not is_silent:
+                return bool(lines)
+        self._watch = None
+        self._gateway.take_next()
+        time.sleep(PAUSE)
+        return False
+
+    def _take(self, response: Dict) -> bool:
+        """Takes an answer of the watch; whether it goes on."""
+        if "compact_revision" in response:
+            self._load()
+        for event in response.get("events", []):
+            kv = event["kv"]
+            self._revision = int(kv["mod_revision"])
+            if kv["key"] == self._opened:
+                continue
+            if event.get("type", "PUT") != "PUT" or kv.get("version") != "1":
+                self._damaged = len(self._entries)
+                break
+            self._entries.append(base64.b64decode(kv.get("value", "")))
+        return not response.get("canceled") and self._damaged is None
 
     def _load(self) -> None:
         """All entries as they are now, where etcd no longer knows how they came; as many as were ever counted."""
