@@ -31,19 +31,42 @@ pub(crate) fn hold_stored<'a>(
     if let Some(branch) = wish.export {
         return export_branch(rt, &kept.book, branch);
     }
-    let ended = match wish.form {
-        Form::Frames => talk_in_frames(rt, &mut FramedStore::new(rt.alloc(), kept)),
-        form => talk_in_lines(
-            rt,
-            &mut StoredConversation::new(rt.alloc(), kept),
-            GROUPED,
-            form,
-        ),
-    };
-    match ended {
+    match wish.form {
+        Form::Frames => hold_in_frames(rt, store, kept),
+        form => hold_in_lines(rt, store, kept, form),
+    }
+}
+
+fn hold_in_frames<'a>(
+    rt: &HostRuntime,
+    store: &'a str,
+    kept: DurableRepository<File>,
+) -> Result<(), Stop<'a>> {
+    let mut backend = FramedStore::new(rt.alloc(), kept);
+    match talk_in_frames(rt, &mut backend) {
         Ok(()) => Ok(()),
-        Err(Ending::Commit(fault)) => Err(Stop::Store(store, fault)),
-        Err(Ending::Talk(fault)) => Err(Stop::Frame(fault)),
+        Err(ending) => Err(stop_of(store, ending)),
+    }
+}
+
+fn hold_in_lines<'a>(
+    rt: &HostRuntime,
+    store: &'a str,
+    kept: DurableRepository<File>,
+    form: Form,
+) -> Result<(), Stop<'a>> {
+    let mut backend = StoredConversation::new(rt.alloc(), kept);
+    match talk_in_lines(rt, &mut backend, GROUPED, form) {
+        Ok(()) => Ok(()),
+        Err(ending) => Err(stop_of(store, ending)),
+    }
+}
+
+// Returns why a program stops whose conversation over a store has ended.
+fn stop_of<'a>(store: &'a str, ending: Ending<PersistenceFault>) -> Stop<'a> {
+    match ending {
+        Ending::Commit(fault) => Stop::Store(store, fault),
+        Ending::Talk(fault) => Stop::Frame(fault),
     }
 }
 
