@@ -38,6 +38,7 @@ module _ {D : Type 0} (seen : D → List ℕ) (may_leave : D → List ℕ → Ty
     -- it fails and nothing changes.
     pub record CommitsStore (old : DurableRepository D) (result : Result (Unit {0}) PersistenceFault) (new : DurableRepository D) : Type 0 where
       pub book : new.book ≡ old.book
+      pub notes : new.notes ≡ old.notes
       pub acknowledged : (stored : StoreContents) → PersistsFirst stored old → OnOk result (PersistsCalls seen may_leave (accepted_by new) new)
       pub crash : (stored : StoreContents) → PersistsFirst stored old → MayLeave stored new
       pub leaves : IfErr result (λ why. LeavesRepository why old new)

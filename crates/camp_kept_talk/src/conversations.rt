@@ -1,7 +1,7 @@
 //! Conversations over a durable repository. Each commit persists all accepted calls.
-ghost use Rattle.std.specs.Prelude.{◌≡◌, ◌-◌, length};
+ghost use Rattle.std.specs.Prelude.{◌≡◌, ◌+◌, ◌-◌, length};
 ghost use Rattle.camp_kept.specs.Accepting.{StoreContents};
-ghost use Rattle.camp_kept.specs.Persisting.{accepted_by, durable_count_in};
+ghost use Rattle.camp_kept.specs.Persisting.{accepted_by, durable_count_in, durable_notes_in};
 ghost use Rattle.camp_kept_talk.specs.Conversations.{CommitsStore, PersistsFirst, SharesStore};
 ghost use Rattle.camp_talk.specs.Diagnostics.{no_diagnostic};
 ghost use Rattle.camp_talk.specs.Engine.Commands.{AnswersFrame, ExecutesCommand};
@@ -57,7 +57,7 @@ impl<D: Disk> Backend<Command, Response> for StoredConversation<D> {
     ghost commits = { λ before result after. CommitsStore D.Disk.seen D.Disk.may_leave D.Disk.faults D.Disk.is_clean before.kept result after.kept
         × (after.lines ≡ before.lines) × (after.diagnostic ≡ before.diagnostic) };
 
-    ghost waiting = { λ it. length (accepted_by it.kept).calls - durable_count_in it.kept };
+    ghost waiting = { λ it. (length (accepted_by it.kept).calls - durable_count_in it.kept) + (length (accepted_by it.kept).notes - durable_notes_in it.kept) };
 
     fn execute(&mut self, command: Command) -> Result<Response, TalkFault> {
         execute_command(
@@ -115,7 +115,7 @@ impl<D: Disk> Backend<Vec<u8>, Vec<u8>> for FramedStore<D> {
 
     ghost commits = { λ before result after. CommitsStore D.Disk.seen D.Disk.may_leave D.Disk.faults D.Disk.is_clean before.kept result after.kept };
 
-    ghost waiting = { λ it. length (accepted_by it.kept).calls - durable_count_in it.kept };
+    ghost waiting = { λ it. (length (accepted_by it.kept).calls - durable_count_in it.kept) + (length (accepted_by it.kept).notes - durable_notes_in it.kept) };
 
     fn execute(&mut self, request: Vec<u8>) -> Result<Vec<u8>, TalkFault> {
         answer_alone(self.alloc, &mut self.kept.book, &request)
