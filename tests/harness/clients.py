@@ -9,6 +9,8 @@ import tempfile
 from tests.harness import programs, unproved
 from tests.harness.paths import TOP, read, write_text
 
+# A program of C that is compiled where SQLite's C library is there.
+USES_SQLITE = "#include <sqlite3.h>\nint main(void) { return !sqlite3_libversion(); }\n"
 WARNINGS = ["-std=c11", "-D_GNU_SOURCE", "-Wall", "-Wextra", "-Werror", "-O2"]
 
 
@@ -82,6 +84,9 @@ class Clients:
             self.report.skip(program)
             return False
         return True
+
+    def has_sqlite(self):
+        return self.compiles("SQLite's C library (libsqlite3-dev)", USES_SQLITE, "-lsqlite3")
 
     def compiles(self, what, text, flag):
         """Whether a program of C is compiled with a flag; else it says that this machine lacks it."""
