@@ -282,8 +282,8 @@ def prove(progress, when_proved):
 
 def prove_chain(progress):
     """Proves the longest chain of crates first, each with all processors: `rt ci` of all crates takes over what is proved here, and while
-    it waits for that it proves others. What fails here fails there, too, which decides."""
-    for name in ON_THE_CHAIN:
+    it waits for that it proves others. What fails here fails there, too, which decides. Where CI=true is set, `rt ci` takes no names."""
+    for name in () if os.environ.get("CI") == "true" else ON_THE_CHAIN:
         ran = start_proofs(progress, ["rt", "ci", name], os.environ)
         for line in ran.stdout:
             text = line.decode(errors="replace").rstrip()
@@ -299,6 +299,7 @@ def start_proofs(progress, words, environment):
 def lanes():
     """The environment of `rt ci` of all crates. It reckons with twice the memory that a crate takes, so that a large one, for which others
     wait, would wait for smaller ones to end: where memory is there, it is told how many crates to prove side by side, and leaves a
-    processor of several to the tests."""
+    processor of several to the tests. Where it proves the chain, too, it shares the processors out itself."""
     most = max(2, programs.JOBS - 1)
-    return {**os.environ, **({"RT_JOBS": str(most)} if free_memory() > ROOM * most else {})}
+    is_told = free_memory() > ROOM * most and os.environ.get("CI") != "true"
+    return {**os.environ, **({"RT_JOBS": str(most)} if is_told else {})}
