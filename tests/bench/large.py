@@ -22,14 +22,15 @@ FILES_PER_CHANGE, TURNS, LIMIT = 25, 3, "16777216"
 # What no branch is called: its refusal ends each answer.
 MARK = b"refused 4 no-such-branch\n"
 MEMORY, OPENING, FORWARD, SETTLED = "KB of memory a change", "opening a store of twice as many calls", "an old branch pulls all", "the same after one more record"
+EMPTIED = "a branch without files pulls a tenth"
 # The milliseconds that each row may take at 50,000 changes.
 ASKED = {
     "record": 2, "tree": 100, "names": 20, "branch": 1, "pull of one patch": 5, "obliterate of the last": 5,
     "obliterate of one in the middle": 100, "annotate": 200, "open": 500, "marks": 500, "needs": 500, "held": 500,
-    "along": 500, "graph of one patch": 1000, OPENING: 2000, FORWARD: 1000, MEMORY: 6,
+    "along": 500, "graph of one patch": 1000, OPENING: 2000, FORWARD: 1000, EMPTIED: 1000, MEMORY: 6,
 }
 PANELS = [
-    ("Calls", ["record", "pull of one patch", "obliterate of the last", "obliterate of one in the middle", FORWARD]),
+    ("Calls", ["record", "pull of one patch", "obliterate of the last", "obliterate of one in the middle", FORWARD, EMPTIED]),
     ("Reading", ["tree", "names", "annotate", "show", OPENING]),
     ("Conflicts and dependencies", ["open", "marks", "needs", "held", "along", "graph of one patch"]),
 ]
@@ -131,7 +132,7 @@ def measure(command, count):
             if not lines or not lines[0].startswith((b"fault", b"refused")):
                 found[name] = min(taken, found.get(name, math.inf))
     talk.peer.communicate()
-    return found | forward(command, count)
+    return found | forward(command, count) | emptied(command, count)
 
 
 def commands(turn, middle, free):
@@ -182,6 +183,32 @@ def forward(command, count):
     found[SETTLED] = talk.ask(b"pull main old\n")[1]
     talk.peer.communicate()
     return found
+
+
+def emptied(command, count):
+    """A branch that was made before the last tenth of the changes, and removed all files, pulls them: most are in conflict with
+    two of its patches, and each is compared with all."""
+    talk, records = Talk(command), list(history(count))
+    end = count - count // 10
+    talk.ask_all(records[:end])
+    talk.ask(b"branch bare main\n")
+    talk.ask_all(list(removals(talk.ask(b"tree main\n")[0])))
+    talk.ask_all(records[end:])
+    found = {EMPTIED: talk.ask(b"pull main bare\n")[1]}
+    talk.peer.communicate()
+    return found
+
+
+def removals(answer):
+    """The records of the branch `bare` that remove the files of an answer of `tree`."""
+    at = 1
+    while at < len(answer):
+        _, path, size = answer[at].split()
+        lines = answer[at + 1 : at + 1 + int(size)]
+        if lines:
+            yield b"record bare d%d edit %s 1\n%send\n" % (at, path, b"".join(b"-" + it[1:] for it in lines))
+        yield b"record bare r%d remove %s\n" % (at, path)
+        at += 1 + int(size)
 
 
 def opening(shell, count):

@@ -8,12 +8,16 @@ ghost use Rattle.camp_catch.specs.MergingLists.{MergeLists, MergeIsBlocked, Merg
 ghost use Rattle.camp_catch.specs.Catches.{catch_key};
 ghost use Rattle.camp_catch.specs.declared.catches.Catch.{Catch as AnyCatch};
 
-use crate::fast::{Gaining, all_gaining, catches_merge_unchanged, merge_after_all};
+use crate::fast::{Gaining, all_gaining, merge_after_all};
 use crate::moves::write_both;
 use crate::{Catch, Unmade, merge};
 use camp_prim::Key;
 use camp_share::{Share, Shared};
 use std::alloc::{AllocError, Global};
+
+/// The number of catches in a list from which on what they mention is compared first: to find it out costs as much as some
+/// merges.
+const MANY_CATCHES: usize = 256;
 
 /// Two catches that begin in the same state and do not merge.
 #[derive(Clone, Copy, Debug, PartialEq, Eq)]
@@ -58,9 +62,10 @@ fn merge_with_all(
         (λ after. MergesWithAll q.old k.now after q.new)
         (λ stuck. IsBlockedWithin q.old k.now stuck.left stuck.right)) result }
 {
+    let many = q.len() >= MANY_CATCHES;
     let mut after = Gaining::new(alloc, k.share()?);
     for j in q.iter_mut() {
-        if !j.merge_with(&mut after)? {
+        if !j.merge_with(&mut after, many)? {
             return Err(Unmade::Blocked(no_merge(j, &after)));
         }
     }
@@ -76,9 +81,6 @@ pub(crate) fn merge_one(
 ) -> Result<bool, AllocError>
     ensures exact { IfOk result (λ done. Changes MergesInPlace (j.old, k.old) done (j.new, k.new)) }
 {
-    if catches_merge_unchanged(alloc, j, k)? {
-        return Ok(true);
-    }
     let Some(pair) = merge(alloc, j, k)? else {
         return Ok(false);
     };
