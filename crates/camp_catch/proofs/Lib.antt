@@ -3,6 +3,7 @@ pub mod CommuteCases
 pub mod CommuteEffects
 pub mod CommuteSteps
 pub mod Determined
+pub mod Elsewhere
 pub mod Fitting
 pub mod Gains
 pub mod KeptLabels

@@ -10,7 +10,7 @@
 //! first among several conflicts, the first is removed from the second's set and the second is inserted into the
 //! first's; conflicts that the first has gained before do not matter.
 //! - A plain catch and a conflictor of the same state merge unchanged if the inverse of the plain one passes the
-//! conflictor unchanged, and the two do not conflict.
+//! conflictor unchanged, and the two do not conflict. They do not if they have no file and no absolute label in common.
 //! - When a catch is merged with the branch at the end of a pull, only what the catch becomes after the branch is
 //! computed. What the branch becomes after the catch is not needed; it exists if the first result does, since adding to
 //! a contexted patch always has a result.
@@ -20,9 +20,14 @@
 //! already.
 //! - The hashes of its patch's name and of its path are stored with a catch. If both hashes of two plain catches
 //! differ, the two commute unchanged, and neither catch is read.
+//! - So is what a conflictor mentions, from when that is asked for the first time: the hash of the file, if all patches
+//! in it are of one, and those of their absolute labels. Two catches that mention patches of different files and of
+//! different labels merge unchanged, whatever kinds they are of: nothing in the one changes a file of the other, so adding
+//! or commuting any part of one past the other changes neither, and as seen before their effects they do not conflict.
 mod after;
 mod gaining;
 mod hashes;
+mod mentions;
 mod passing;
 mod unmoved;
 

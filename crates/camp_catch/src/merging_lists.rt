@@ -8,7 +8,7 @@ ghost use Rattle.camp_catch.specs.MergingLists.{MergeLists, MergeIsBlocked, Merg
 ghost use Rattle.camp_catch.specs.Catches.{catch_key};
 ghost use Rattle.camp_catch.specs.declared.catches.Catch.{Catch as AnyCatch};
 
-use crate::fast::{Gaining, all_gaining, catches_merge_unchanged, merge_after_all};
+use crate::fast::{Gaining, all_gaining, merge_after_all};
 use crate::moves::write_both;
 use crate::{Catch, Unmade, merge};
 use camp_prim::Key;
@@ -76,9 +76,6 @@ pub(crate) fn merge_one(
 ) -> Result<bool, AllocError>
     ensures exact { IfOk result (λ done. Changes MergesInPlace (j.old, k.old) done (j.new, k.new)) }
 {
-    if catches_merge_unchanged(alloc, j, k)? {
-        return Ok(true);
-    }
     let Some(pair) = merge(alloc, j, k)? else {
         return Ok(false);
     };

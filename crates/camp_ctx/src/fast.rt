@@ -7,6 +7,9 @@
 //! - Whether a patch without a context conflicts with a patch that is seen after a chain is often known without adding
 //! the chain: there is no conflict if the inverse of the first patch passes the chain and the patch unchanged; there is
 //! one if it does not merge with the first element of the chain, and its label is not in the chain.
+//! - A patch without a context that has no file and no absolute label in common with a list and a contexted patch does
+//! not conflict with what is seen before the list: adding commutes, drops or inserts primitives, and commuting changes
+//! neither files nor labels. Nothing is added.
 //! - A context in normal order that a primitive passes unchanged stays unchanged when the primitive is added, and is
 //! shared. When a list is added, the context is copied only at the first element that may change it.
 //! - A context in normal order stays in normal order when a primitive has passed it, if there is headroom; it is not

@@ -9,6 +9,7 @@ pub mod BeginningSteps
 pub mod HistoriesLawful
 pub mod LimitSteps
 pub mod LawfulBranches
+pub mod ListSteps
 pub mod NameSteps
 pub mod PlaceSteps
 pub mod RecordSteps

@@ -48,8 +48,7 @@ first_keys keys old name none inserted =
     inserted ∙ ap (λ ns. cond (list_any (bytes_eq name) ns) ns (ns ++ name ∷ [])) none
 
 -- the fields of a new state
-pub first_state : (keys old : List (List ℕ)) (name : List ℕ) (branches none : List (List Catch)) (main : List Catch) (limits : Bounds) → old ≡ [] → name ≡ codes "main" → keys ≡ cond (list_any (bytes_eq name) old) old (old ++ name ∷ []) → none ≡ [] → main ≡ [] → branches ≡ none ++ main ∷ [] → (length keys ≡ length branches) × (record { branches = zip keys branches; count = 0; limits = limits } ≡ new_within limits)
-first_state keys old name branches none main limits empty called inserted no_branch no_catch pushed =
+pub first_state : (keys old : List (List ℕ)) (name : List ℕ) (branches : List (List Catch)) (limits : Bounds) → old ≡ [] → name ≡ codes "main" → keys ≡ cond (list_any (bytes_eq name) old) old (old ++ name ∷ []) → branches ≡ [] ∷ [] → (length keys ≡ length branches) × (record { branches = zip keys branches; count = 0; limits = limits } ≡ new_within limits)
+first_state keys old name branches limits empty called inserted one =
     let made : keys ≡ codes "main" ∷ [] = first_keys keys old name empty inserted ∙ ap (λ n. n ∷ []) called in
-    let one : branches ≡ [] ∷ [] = pushed ∙ (λ i. no_branch i ++ no_catch i ∷ []) in
     (ap length made ∙ sym (ap length one), λ i. record { branches = zip (made i) (one i); count = 0; limits = limits })

@@ -2,6 +2,7 @@
 #![tactic(auto)]
 
 mod beginnings;
+mod branch_lists;
 mod faults;
 mod firsts;
 mod laws;

@@ -2,7 +2,6 @@
 ghost use Rattle.std.specs.Prelude.{◌≡◌, ◌-◌, ◌^◌, ◌<◌, ◌++◌, [], ◌∷◌, List, None, Some, length, map, codes, slice_get, bytes_eq, if◌then◌else◌, IfOk, IfSome, MatchOption};
 ghost use Rattle.std.specs.List.{list_any};
 ghost use Rattle.camp_branch.specs.Agreeing.{Agree};
-ghost use Rattle.camp_branch.specs.Branches.{has_patch};
 ghost use Rattle.camp_catch.specs.declared.catches.Catch.{Catch};
 ghost use Rattle.camp_repo.specs.Beginnings.{AllHold, catches_in};
 ghost use Rattle.camp_repo.specs.Lawful.{IsLawfulState};
@@ -10,9 +9,10 @@ ghost use Rattle.camp_repo.specs.Placing.{placed};
 ghost use Rattle.camp_repo.specs.States.{after, catches_of, initial, new_within, stands, with_catches};
 
 use crate::beginnings::KnownBeginnings;
+use crate::branch_lists::BranchList;
 use crate::{Branch, Limits};
 use camp_base::Name;
-use camp_share::{Share, Shared, SharedList};
+use camp_share::{Share, Shared};
 use indexmap::IndexSet;
 use std::alloc::{AllocError, Global};
 use std::marker::Model;
@@ -22,7 +22,7 @@ use std::marker::Model;
 #[derive(Drop)]
 pub struct State {
     names: Shared<IndexSet<Name>>,
-    branches: SharedList<Shared<Branch>>,
+    branches: BranchList,
     known: KnownBeginnings,
     count: u64,
     limits: Limits,
@@ -60,8 +60,7 @@ impl State {
         let mut names = IndexSet::new(alloc);
         names.insert(main_name())?;
         let names = Shared::new(alloc, names)?;
-        let main = Shared::new(alloc, Branch::empty(alloc))?;
-        let branches = SharedList::new(alloc).pushed(main)?;
+        let branches = BranchList::of_empty(alloc)?;
         Ok(State {
             names,
             branches,
@@ -136,7 +135,7 @@ impl State {
     pub(crate) fn stands(&self, name: &Name) -> bool
         ensures { result ≡ stands self.now.branches name.now }
     {
-        is_in_some(&self.branches, name)
+        self.branches.has_patch(name)
     }
 
     /// Returns the branch of a name and its index in the order of creation, if there is one.
@@ -227,7 +226,6 @@ impl State {
         requires known { AllHold (placed self.now.branches place branch) known }
         ensures { IfOk result (λ next. next ≡ after self.now (placed self.now.branches place branch)) }
     {
-        let branch = Shared::new(self.branches.allocator(), branch)?;
         let branches = self.branches.replaced(place, branch)?;
         let names = self.names.share()?;
         Ok(State {
@@ -257,7 +255,7 @@ impl State {
             .known
             .copied(place, self.len(), branch.catches().len())?;
         let names = with_name(self.allocator(), &self.names, name)?;
-        let branches = with_copy_behind(&self.branches, branch)?;
+        let branches = self.branches.pushed(branch)?;
         Ok(State {
             names,
             branches,
@@ -280,24 +278,6 @@ fn with_name(
     let mut all = names.clone()?;
     all.insert(*name)?;
     Shared::new(alloc, all)
-}
-
-/// Returns the branches with one more appended, a copy of a given one.
-fn with_copy_behind(
-    branches: &SharedList<Shared<Branch>>,
-    branch: &Branch,
-) -> Result<SharedList<Shared<Branch>>, AllocError>
-    ensures { IfOk result (λ all. all ≡ branches.now ++ branch.now ∷ []) }
-{
-    let copy = Shared::new(branches.allocator(), branch.try_clone()?)?;
-    branches.pushed(copy)
-}
-
-/// True if some branch has a patch of this name.
-fn is_in_some(branches: &SharedList<Shared<Branch>>, name: &Name) -> bool
-    ensures { result ≡ list_any (λ branch. has_patch branch name.now) branches.now }
-{
-    branches.iter().any(|branch| branch.has_patch(name))
 }
 
 fn main_name() -> Name

@@ -1,9 +1,9 @@
 //! Edits of a list in chunks. Each makes a new list that shares unchanged chunks.
 ghost use Rattle.std.specs.Prelude.{◌≡◌, ◌+◌, ◌*◌, ◌<◌, ◌≤◌, ◌^◌, List, ◌∷◌, [], ◌++◌, length, take, drop, slice_set, IfOk, IfSome, IsTrue, OnOk};
 ghost use Rattle.std.specs.List.{All, insert, remove};
-ghost use Rattle.camp_share.specs.Inside.Parts.{joined, longest_part, IsPart, offset, IsPlace};
+ghost use Rattle.camp_share.specs.Inside.Parts.{HasRoomAt, joined, longest_part, IsPart, offset, IsPlace};
 
-use crate::Share;
+use crate::{Share, Shared};
 use crate::growing::{Growing, MAX_PART_LENGTH, Part, append_copies, first_of, push_as_part};
 use std::alloc::{AllocError, Global};
 use std::marker::Model;
@@ -154,7 +154,7 @@ impl<T: Share + Drop> Change<T> {
 
 // Returns the same position in another form if it is the start of a chunk and the chunk before has room for another
 // element: the end of the chunk before.
-fn behind_with_room<T>(parts: &Growing<Part<T>>, index: usize, place: usize) -> (usize, usize)
+pub(crate) fn behind_with_room<T>(parts: &Growing<Part<T>>, index: usize, place: usize) -> (usize, usize)
     requires parts { All IsPart parts.now }
     requires place { IsPlace parts.now index place }
     ensures place { IsPlace parts.now result.0 result.1 }
@@ -233,6 +233,38 @@ pub(crate) fn inserted_at<T: Share + Drop>(
     let mut items = first_of(parts.at(index), place)?;
     items.push(item)?;
     with_end_of(parts, index, place, items)
+}
+
+// Inserts an element, in place, at a position in a chunk that has room for it: the chunk is copied, and the list of
+// chunks only where another list shares it.
+pub(crate) fn insert_with_room<T: Share + Drop>(
+    parts: &mut Growing<Part<T>>,
+    index: usize,
+    place: usize,
+    item: T,
+) -> Result<(), AllocError>
+    requires parts { All IsPart parts.old }
+    requires place { IsPlace parts.old index place }
+    requires room { HasRoomAt parts.old index }
+    ensures items { OnOk result (joined parts.new ≡ insert (joined parts.old) (offset parts.old index place) item) }
+    ensures parts { OnOk result (All IsPart parts.new) }
+{
+    let part = parts.at(index);
+    let mut items = first_of(part, place)?;
+    items.push(item)?;
+    append_copies(&mut items, &part[place..])?;
+    let alloc = *items.allocator();
+    let part = Shared::new(alloc, items)?;
+    parts.set(index, part)
+}
+
+// True if there is a chunk of this index, and it has room for another element.
+pub(crate) fn has_room_at<T>(parts: &Growing<Part<T>>, index: usize) -> bool
+    requires { length (joined parts.now) < 2 ^ 64 }
+    requires parts { All IsPart parts.now }
+    ensures { IsTrue result → HasRoomAt parts.now index }
+{
+    index < parts.len() && parts.at(index).len() < MAX_PART_LENGTH
 }
 
 // Replaces the element at a position in a chunk.

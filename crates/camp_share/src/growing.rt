@@ -1,8 +1,8 @@
 //! A list of chunks that grows at its end: the unit in which lists and maps share memory.
-ghost use Rattle.std.specs.Prelude.{◌≡◌, ◌+◌, ◌-◌, ◌<◌, ◌≤◌, ◌^◌, List, [], ◌∷◌, ◌++◌, length, take, drop, slice_index_or, IfOk, OnErr, OnOk};
+ghost use Rattle.std.specs.Prelude.{◌≡◌, ◌+◌, ◌-◌, ◌<◌, ◌≤◌, ◌^◌, List, [], ◌∷◌, ◌++◌, length, take, drop, slice_index_or, slice_set, IfOk, OnErr, OnOk};
 ghost use Rattle.std.specs.List.{All};
 ghost use Rattle.std.specs.Map.Iter.{ShowsInOrder, deref};
-ghost use Rattle.camp_share.specs.Inside.Parts.{joined, longest_part, IsPart};
+ghost use Rattle.camp_share.specs.Inside.Parts.{joined, longest_part, offset, IsPart, IsPlace};
 
 use crate::iters::Steps;
 use crate::{Share, Shared};
@@ -144,6 +144,19 @@ impl<T: Share + Drop> Growing<T> {
         Ok(())
     }
 
+    // Replaces the element at `index`; copies its chunk only if another list shares it.
+    pub(crate) fn set(&mut self, index: usize, item: T) -> Result<(), AllocError>
+        requires { index < length self.old }
+        ensures { OnOk result (self.new ≡ slice_set self.old index item) }
+    {
+        let (count, left) = sealed_place(&self.closed, index);
+        if count < self.closed.len() {
+            return self.closed[count].set(left, item);
+        }
+        self.last[left] = item;
+        Ok(())
+    }
+
     // Appends copies of elements.
     pub(crate) fn push_items(&mut self, items: &[T]) -> Result<(), AllocError>
         ensures { OnOk result (self.new ≡ self.old ++ items.now) }
@@ -245,6 +258,24 @@ impl<T: Share + Drop> Share for Growing<T> {
         let last = copies(alloc, &self.last, self.last.len())?;
         Ok(Growing { closed, last })
     }
+}
+
+// Finds the chunk of element `index`, and the element's position in it; for an element after all chunks, returns their
+// number and its index after them.
+fn sealed_place<T>(parts: &[Part<T>], index: usize) -> (usize, usize)
+    ensures within { result.0 ≤ length parts.now }
+    ensures inside { result.0 < length parts.now → IsPlace parts.now result.0 (result.1 + 1) }
+    ensures exact { offset parts.now result.0 result.1 ≡ index }
+{
+    let (mut count, mut left) = (0, index);
+    for part in parts {
+        if left < part.len() {
+            break;
+        }
+        left -= part.len();
+        count += 1;
+    }
+    (count, left)
 }
 
 // Returns the number of elements of all chunks together.

@@ -1,5 +1,6 @@
 //! The sorted map over shared entries, and a builder for it.
-ghost use Rattle.std.specs.Prelude.{◌≡◌, ◌==◌, if◌then◌else◌, T as Holds, IfOk, OnErr, OnOk, slice_get};
+ghost use Rattle.std.specs.Prelude.{◌≡◌, ◌==◌, ◌<◌, ◌^◌, if◌then◌else◌, length, T as Holds, IfOk, IfSome, OnErr, OnOk, slice_get};
+ghost use Rattle.std.specs.List.{All};
 ghost use Rattle.std.specs.Option.{option_copied};
 ghost use Rattle.std.specs.FinMap as map;
 ghost use Rattle.std.specs.FinMap.{IsAntisymmetric, is_sorted};
@@ -8,10 +9,15 @@ ghost use Rattle.std.specs.Map.Iter.{ShowsInOrder, deref};
 ghost use Rattle.std.specs.Cmp.Lexicographic.{pointwise, lists_per};
 ghost use Rattle.std.specs.Cmp.{on_per, and_per};
 ghost use Rattle.camp_share.specs.Inside.EntryFields.{entries_of, IsForm};
+ghost use Rattle.camp_share.specs.Inside.Parts.{HasRoomAt, IsPart, joined};
+ghost use Rattle.camp_share.specs.Inside.Places.{WouldBeInPart};
 ghost use Rattle.camp_share.specs.Maps.{map_of};
 
-use crate::changes::{inserted_at, removed_at, replaced_at};
+use crate::changes::{
+    behind_with_room, has_room_at, insert_with_room, inserted_at, removed_at, replaced_at,
+};
 use crate::few_or_many::Entries;
+use crate::growing::{Growing, Part};
 use crate::iters::are_equal;
 use crate::part_lists::PartList;
 use crate::pieces::OnePart;
@@ -149,6 +155,19 @@ impl<K: Key, V: Share + Drop> SharedMap<K, V> {
         Ok(SharedMap::of(self.alloc, entries))
     }
 
+    /// Returns the map in which the key has this value, instead of any value that it had. Takes the map: groups of
+    /// chunks that no other map shares are changed in place.
+    pub fn with(self, key: K, value: V) -> Result<SharedMap<K, V>, AllocError>
+        ensures exact { IfOk result (λ new. map_of K.cmp new ≡ map.insert (map_of K.cmp self) key value) }
+    {
+        let SharedMap { entries, alloc } = self;
+        let entries = match entries {
+            Entries::OnePart(part) => inserted_in_part(alloc, &part, key, value)?,
+            Entries::Parts(list) => Entries::Parts(with_in_parts(list, key, value)?),
+        };
+        Ok(SharedMap::of(alloc, entries))
+    }
+
     /// Returns the map in which the key has this value, or the same map if it contains the key.
     pub fn inserted_if_absent(&self, key: K, value: V) -> Result<SharedMap<K, V>, AllocError>
         ensures exact { IfOk result (λ new. map_of K.cmp new ≡ (if map.contains_key (map_of K.cmp self.now) key then map_of K.cmp self.now else map.insert (map_of K.cmp self.now) key value)) }
@@ -216,6 +235,47 @@ fn inserted_in_parts<K: Key, V: Share + Drop>(
             Ok(PartList::of_parts(parts, len))
         }
     }
+}
+
+// Inserts an entry into a chunk tree, or replaces the one with its key; takes the tree, and changes in place what no
+// other tree shares.
+fn with_in_parts<K: Key, V: Share + Drop>(
+    list: PartList<(K, V)>,
+    key: K,
+    value: V,
+) -> Result<PartList<(K, V)>, AllocError>
+    requires { Holds (is_sorted K.cmp list) }
+    ensures { IfOk result (λ new. Holds (is_sorted K.cmp new)
+        × (map_of K.cmp new ≡ map.insert (map_of K.cmp list) key value)) }
+{
+    let Some((index, place)) = gap_with_room(list.parts(), &key) else {
+        return inserted_in_parts(&list, key, value);
+    };
+    let Some(len) = list.len().checked_add(1) else {
+        return Err(AllocError);
+    };
+    let mut parts = list.into_parts();
+    insert_with_room(&mut parts, index, place, (key, value))?;
+    Ok(PartList::of_parts(parts, len))
+}
+
+// Finds the position at which a new key would be inserted into a chunk with room. `None` if the tree contains the key, or
+// the chunk has no room.
+fn gap_with_room<K: Key, V>(parts: &Growing<Part<(K, V)>>, key: &K) -> Option<(usize, usize)>
+    requires parts { All IsPart parts.now }
+    requires sorted { Holds (is_sorted K.cmp (joined parts.now)) }
+    requires fits { length (joined parts.now) < 2 ^ 64 }
+    ensures place { IfSome result (λ found. WouldBeInPart K.cmp parts.now key.now found.0 found.1) }
+    ensures room { IfSome result (λ found. HasRoomAt parts.now found.0) }
+{
+    let Err((index, place)) = search(parts, key) else {
+        return None;
+    };
+    let (index, place) = behind_with_room(parts, index, place);
+    if !has_room_at(parts, index) {
+        return None;
+    }
+    Some((index, place))
 }
 
 // Removes the entry of a key from one chunk of entries.

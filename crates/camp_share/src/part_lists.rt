@@ -111,6 +111,14 @@ impl<T> PartList<T> {
         &self.parts
     }
 
+    // Returns the chunks, and takes the list.
+    pub(crate) fn into_parts(self) -> Growing<Part<T>>
+        ensures items { joined result ≡ self }
+        ensures parts { All IsPart result }
+    {
+        self.parts
+    }
+
     // Makes the list of these chunks, which have `len` elements together.
     pub(crate) fn of_parts(parts: Growing<Part<T>>, len: usize) -> PartList<T>
         requires parts { All IsPart parts }

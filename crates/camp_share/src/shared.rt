@@ -1,6 +1,7 @@
 //! The reference-counted value, and the trait of values whose copies share their contents.
-ghost use Rattle.std.specs.Prelude.{◌≡◌, IfOk};
+ghost use Rattle.std.specs.Prelude.{◌≡◌, ◌<◌, length, slice_set, IfOk, OnOk};
 
+use crate::growing::copies;
 use std::alloc::{AllocError, Global};
 use std::marker::Model;
 use std::ops::Deref;
@@ -34,6 +35,24 @@ impl<T: Drop> Shared<T> {
     {
         let arc = Arc::new(alloc, value)?;
         Ok(Shared { arc })
+    }
+}
+
+impl<T: Share + Drop> Shared<Vec<T>> {
+    // Replaces the element at `index`: in place if the vector has no other owner, else in a copy.
+    pub(crate) fn set(&mut self, index: usize, item: T) -> Result<(), AllocError>
+        requires { index < length self.old.items }
+        ensures { OnOk result (self.new.items ≡ slice_set self.old.items index item) }
+    {
+        if let Some(items) = Arc::get_mut(&mut self.arc) {
+            items[index] = item;
+            return Ok(());
+        }
+        let alloc = *self.arc.allocator();
+        let mut items = copies(alloc, &self.arc, self.arc.len())?;
+        items[index] = item;
+        *self = Shared::new(alloc, items)?;
+        Ok(())
     }
 }
 

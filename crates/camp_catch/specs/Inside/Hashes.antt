@@ -19,7 +19,7 @@ hash_of bytes = fold hash_step 0 bytes
 -- the hashes of a catch
 abbrev pub hashes_of : Catch → CatchHashes
 hashes_of (Plain p) = record { is_plain = true; patch = hash_of p.name; file = hash_of (path_of p.prim) }
-hashes_of (Catch.Conflictor k) = record { is_plain = false; patch = hash_of (catch_key (Catch.Conflictor k)).name; file = 0 }
+hashes_of (Catch.Conflictor k) = record { is_plain = false; patch = hash_of (catch_key (Catch.Conflictor k)).name; file = hash_of (path_of k.identity.patch.prim) }
 
 -- a plain catch is in range
 abbrev pub IsRanged : Catch → Type 0

@@ -4,12 +4,16 @@ ghost use Rattle.camp_base.specs.Answers.{Changes};
 ghost use Rattle.camp_catch.specs.Catches.{catch_key};
 ghost use Rattle.camp_catch.specs.Inside.InPlace.{CatchesCommuteInPlace, MergesInto, MergesInPlace, with_gained};
 ghost use Rattle.camp_catch.specs.Inside.Hashes.{hash_of};
+ghost use Rattle.camp_catch.specs.Inside.Mentions.{IsRightOf};
 ghost use Rattle.camp_catch.specs.Inside.QuickChecks.{IsMergeCheck};
+ghost use Rattle.camp_catch.specs.Merging.{MergeCatch};
 ghost use Rattle.camp_catch.specs.declared.catches.Catch.{Catch as AnyCatch};
 
 use crate::fast::after::merge_after;
 use crate::fast::hashes::{CatchHashes, hashes_differ, hashes_of};
+use crate::fast::mentions::{Mentioned, are_elsewhere, mentioned_at_first, visited};
 use crate::fast::passing::{CommuteCheck, check_commute, has_no_effect};
+use crate::fast::unmoved::catches_merge_unchanged;
 use crate::merging_lists::merge_one;
 use crate::moves::commute_in_place;
 use crate::{Catch, Conflictor};
@@ -25,6 +29,8 @@ pub(crate) struct Gaining {
     catch: Shared<Catch>,
     gained: Vec<Contexted>,
     hashes: CatchHashes,
+    // Of the catch without the conflicts that it has gained.
+    mentioned: Mentioned,
 }
 
 impl Model for Gaining {
@@ -32,6 +38,7 @@ impl Model for Gaining {
     ghost use Rattle.camp_ctx.specs.declared.sets.CtxSet.{the_code as code_of_sets};
     ghost use Rattle.camp_catch.specs.Inside.InPlace.{with_gained};
     ghost use Rattle.camp_catch.specs.Inside.Hashes.{HasHashes};
+    ghost use Rattle.camp_catch.specs.Inside.Mentions.{IsRightOf};
     ghost use Rattle.camp_catch.specs.declared.catches.Catch.{Catch};
 
     ghost Value = { Catch };
@@ -40,7 +47,7 @@ impl Model for Gaining {
 
     ghost view = { λ gaining. with_gained gaining.gained.items gaining.catch };
 
-    ghost invariant = { λ gaining. HasHashes gaining.catch gaining.hashes };
+    ghost invariant = { λ gaining. HasHashes gaining.catch gaining.hashes × IsRightOf gaining.mentioned gaining.catch };
 }
 
 /// A catch that is commuted past others, and its hashes.
@@ -98,10 +105,12 @@ impl Gaining {
         ensures { result ≡ catch }
     {
         let hashes = hashes_of(&catch);
+        let mentioned = mentioned_at_first(alloc, &catch, &hashes);
         Gaining {
             catch,
             gained: Vec::new(alloc),
             hashes,
+            mentioned,
         }
     }
 
@@ -135,8 +144,55 @@ impl Gaining {
         Ok(self.catch)
     }
 
+    /// Becomes the catch with the conflicts that it has gained, if there are any.
+    fn settle(&mut self, settled: Shared<Catch>)
+        requires { settled ≡ self.old }
+        ensures { self.new ≡ self.old }
+    {
+        if !self.gained.is_empty() {
+            let alloc = *self.gained.allocator();
+            *self = Gaining::new(alloc, settled);
+        }
+    }
+
+    /// Visits the catch if it was not visited before.
+    fn visit(&mut self) -> Result<(), AllocError>
+        ensures { self.new ≡ self.old }
+    {
+        if !self.mentioned.is_visited {
+            let alloc = *self.gained.allocator();
+            self.mentioned = visited(alloc, &self.catch, self.hashes.file)?;
+        }
+        Ok(())
+    }
+
+    /// True only if this catch and a `k` that begins in the same state merge unchanged, because they mention patches of
+    /// different files and of different absolute labels. Visits both if their own files differ.
+    fn is_elsewhere(&mut self, k: &mut Gaining) -> Result<bool, AllocError>
+        ensures same { self.new ≡ self.old }
+        ensures other { k.new ≡ k.old }
+        ensures merge { IfOk result (λ yes. IsTrue yes → MergeCatch self.old k.old k.old self.old) }
+    {
+        if self.hashes.file == k.hashes.file {
+            return Ok(false);
+        }
+        self.visit()?;
+        k.visit()?;
+        Ok(mention_others(self, k))
+    }
+
     /// Merges with a `k` that begins in the same state, in place. False if they do not merge.
     pub(crate) fn merge_with(&mut self, k: &mut Gaining) -> Result<bool, AllocError>
+        ensures exact { IfOk result (λ done. Changes MergesInPlace (self.old, k.old) done (self.new, k.new)) }
+    {
+        if self.is_elsewhere(k)? {
+            return Ok(true);
+        }
+        self.merge_with_near(k)
+    }
+
+    /// Merges with a `k` that begins in the same state, in place, by their contents.
+    fn merge_with_near(&mut self, k: &mut Gaining) -> Result<bool, AllocError>
         ensures exact { IfOk result (λ done. Changes MergesInPlace (self.old, k.old) done (self.new, k.new)) }
     {
         match check_merge(&self.catch, &k.catch)? {
@@ -189,6 +245,7 @@ impl Gaining {
                 }
                 let done = commute_in_place(alloc, &mut self.catch, k);
                 self.hashes = hashes_of(&self.catch);
+                self.mentioned = mentioned_at_first(alloc, &self.catch, &self.hashes);
                 done
             }
         }
@@ -199,6 +256,9 @@ impl Gaining {
     pub(crate) fn merge_self_with(&mut self, j: &Gaining) -> Result<bool, AllocError>
         ensures exact { IfOk result (λ done. Changes (MergesInto j.now) self.old done self.new) }
     {
+        if mention_others(j, self) {
+            return Ok(true);
+        }
         match check_merge(&j.catch, &self.catch)? {
             MergeCheck::Aside => Ok(true),
             MergeCheck::Conflict(first, _) => {
@@ -208,6 +268,20 @@ impl Gaining {
             MergeCheck::Unknown => merge_self_with_gains(j, self),
         }
     }
+}
+
+/// True only if two catches have gained nothing and were visited, and mention patches of different files and of
+/// different absolute labels, so that they merge unchanged.
+fn mention_others(j: &Gaining, k: &Gaining) -> bool
+    ensures { IsTrue result → MergeCatch j.now k.now k.now j.now }
+{
+    if !j.gained.is_empty() {
+        return false;
+    }
+    if !k.gained.is_empty() {
+        return false;
+    }
+    are_elsewhere(&j.mentioned, &k.mentioned)
 }
 
 /// Wraps catches that have gained nothing.
@@ -242,6 +316,11 @@ fn merge_with_gains(j: &mut Gaining, k: &mut Gaining) -> Result<bool, AllocError
     let alloc = *j.gained.allocator();
     let mut first = j.with_gains()?;
     let mut second = k.with_gains()?;
+    if catches_merge_unchanged(alloc, &first, &second)? {
+        j.settle(first);
+        k.settle(second);
+        return Ok(true);
+    }
     if !merge_one(alloc, &mut first, &mut second)? {
         return Ok(false);
     }

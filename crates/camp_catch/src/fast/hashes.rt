@@ -4,7 +4,7 @@ ghost use Rattle.camp_catch.specs.Inside.Hashes.{hash_step, hash_of, HashesDiffe
 
 use crate::Catch;
 
-/// The hashes of a catch: that of the name of its patch, and for a plain one that of its path.
+/// The hashes of a catch: that of the name of its patch and that of its path, or of the path of its identity.
 #[derive(Clone, Copy)]
 pub(crate) struct CatchHashes {
     pub(crate) is_plain: bool,
@@ -25,7 +25,7 @@ pub(crate) fn hashes_of(catch: &Catch) -> CatchHashes
         Catch::Conflictor(conflictor) => CatchHashes {
             is_plain: false,
             patch: hash_of(conflictor.identity.name().bytes()),
-            file: 0,
+            file: hash_of(conflictor.identity.patch().prim.path().bytes()),
         },
     }
 }
@@ -52,7 +52,7 @@ pub(crate) fn hash_of(bytes: &[u8]) -> u64
 }
 
 /// Adds a byte to a hash.
-fn hash_step(sum: u64, byte: u8) -> u64
+pub(crate) fn hash_step(sum: u64, byte: u8) -> u64
     ensures { result ≡ hash_step sum byte }
 {
     sum.wrapping_mul(0x0000_0100_0000_01b3)

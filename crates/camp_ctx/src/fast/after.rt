@@ -11,6 +11,7 @@ ghost use Rattle.camp_ctx.specs.Inside.Apart.{NoCleanMerge};
 use crate::Contexted;
 use crate::conflicts::has_label;
 use crate::fast::conflicts::firsts_do_not_merge;
+use crate::fast::elsewhere::changes_none_of_their_files;
 use crate::fast::links::becomes_context;
 use camp_prim::{Named, commutes_unchanged};
 use camp_seq::{Seq, are_own_orders_of_chain, stays_past};
@@ -23,6 +24,9 @@ pub fn conflict_after_adding(a: &Named, r: &Seq, x: &Contexted) -> Result<Option
     ensures sound { IfOk result (λ told. IfSome told (λ found.
         (seen : ContextedPatch) × AddsAll r.now x.now seen × (IsTrue found ↔ Conflict (bare a.now) seen))) }
 {
+    if changes_none_of_their_files(a, r, x) {
+        return Ok(Some(false));
+    }
     if !becomes_context(r, x) {
         return Ok(None);
     }

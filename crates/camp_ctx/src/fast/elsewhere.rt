@@ -6,6 +6,7 @@ ghost use Rattle.camp_ctx.specs.Inside.Apart.{ChangeNoCommonFile, ChangeDifferen
 
 use crate::Contexted;
 use camp_prim::{Named, have_same_key};
+use camp_seq::Seq;
 
 /// True only if two contexted patches change different files, under different absolute labels, and so do not conflict.
 /// False decides nothing. Does not allocate.
@@ -16,6 +17,18 @@ pub(crate) fn are_elsewhere(x: &Contexted, y: &Contexted) -> bool
         return false;
     }
     all_elsewhere(x.context().items(), y)
+}
+
+/// True if a primitive changes another file, under another absolute label, than each element of a list and each primitive
+/// of a contexted patch.
+pub(crate) fn changes_none_of_their_files(a: &Named, r: &Seq, x: &Contexted) -> bool
+    ensures list { IsTrue result → ChangesOtherFiles r.now a.now }
+    ensures all { IsTrue result → ChangesOtherFiles (whole x.now) a.now }
+{
+    if !is_elsewhere(a, x) {
+        return false;
+    }
+    changes_other_files(a, r.items())
 }
 
 /// True if each element of a list changes other files than a contexted patch.

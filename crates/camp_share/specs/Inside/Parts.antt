@@ -25,6 +25,10 @@ module _ {X Z : Type 0} where
   abbrev pub IsPlace : List (Vec X Z) → ℕ → ℕ → Type 0
   IsPlace parts index place = (index ≤ length parts) × (offset parts index place ≤ length (joined (take (index + 1) parts)))
 
+  -- there is a chunk of this index, and it has room for another element
+  abbrev pub HasRoomAt : List (Vec X Z) → ℕ → Type 0
+  HasRoomAt parts index = (index < length parts) × (length (joined (take (index + 1) parts)) < length (joined (take index parts)) + longest_part)
+
   -- the elements of a chunk, or none
   abbrev pub held_part : Option (Vec X Z) → List X
   held_part None = []

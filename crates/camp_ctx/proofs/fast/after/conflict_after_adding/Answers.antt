@@ -1,7 +1,15 @@
 use Rattle.camp_ctx.proofs.Words.{refl}
 use Rattle.camp_ctx.proofs.AnyOrder.{some_behind}
+use Rattle.camp_ctx.proofs.OtherFiles.{no_conflict_before}
 use Rattle.camp_ctx.proofs.Standing.{none_behind}
 use Rattle.camp_ctx.proofs.fast.after.conflict_after_adding.Goals as goal
+
+pub returns-then-changes_none_of_their_files : goal.returns-then-changes_none_of_their_files
+returns-then-changes_none_of_their_files c =
+    let yes = c.if-changes_none_of_their_files.true in
+    let told = c.changes_none_of_their_files.ensures in
+    let before = no_conflict_before c.args.a.now c.args.r.now c.args.x.now (told.list yes) (told.all yes) in
+    record { sound = (before.0, before.1, (λ never. cc, λ conflict. absurd (before.2 conflict))) }
 
 pub returns-then-branch : goal.returns-then-branch
 returns-then-branch c =

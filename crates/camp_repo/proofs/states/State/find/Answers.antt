@@ -12,13 +12,13 @@ pub returns-in_default-get-clause-value : goal.returns-in_default-get-clause-val
 returns-in_default-get-clause-value c =
     let searched = ap (λ s. position (bytes_eq c.args.name.now) s.keys) (sym c.deref.ensures) ∙ sym c.get_index_of.ensures.index ∙ c.in-Some.is in
     let there = found c.self.inside.names.keys c.self.inside.branches c.args.name.now c.in-Some.place c.self.invariant.as_many searched in
-    subst (λ s. catches_of s.branches c.args.name.now ≡ None) c.self.view_is (sym there.has ∙ sym c.get.ensures.exact ∙ ap option_copied c.in_default-get.is)
+    subst (λ s. catches_of s.branches c.args.name.now ≡ None) c.self.view_is (sym there.has ∙ sym c.get.ensures ∙ ap option_copied c.in_default-get.is)
 
 pub returns-clause-value : goal.returns-clause-value
 returns-clause-value c =
     let searched = ap (λ s. position (bytes_eq c.args.name.now) s.keys) (sym c.deref.ensures) ∙ sym c.get_index_of.ensures.index ∙ c.in-Some.is in
     let there = found c.self.inside.names.keys c.self.inside.branches c.args.name.now c.in-Some.place c.self.invariant.as_many searched in
-    subst (λ s. catches_of s.branches c.args.name.now ≡ Some c.deref-2.result.now) c.self.view_is (sym there.has ∙ sym c.get.ensures.exact ∙ ap option_copied c.in-Some-get.is ∙ ap Some (sym c.deref-2.ensures))
+    subst (λ s. catches_of s.branches c.args.name.now ≡ Some c.in-Some-get.branch.now) c.self.view_is (sym there.has ∙ sym c.get.ensures ∙ ap option_copied c.in-Some-get.is)
 
 pub returns-clause-within : goal.returns-clause-within
 returns-clause-within c =
@@ -34,4 +34,4 @@ returns-clause-placed c catches =
 
 pub returns-clause-at : goal.returns-clause-at
 returns-clause-at c =
-    subst (λ s. slice_get (catches_in s.branches) c.in-Some.place ≡ Some c.deref-2.result.now) c.self.view_is (ap (λ bs. slice_get bs c.in-Some.place) (seconds-zip c.self.inside.names.keys c.self.inside.branches (sym c.self.invariant.as_many)) ∙ sym c.get.ensures.exact ∙ ap option_copied c.in-Some-get.is ∙ ap Some (sym c.deref-2.ensures))
+    subst (λ s. slice_get (catches_in s.branches) c.in-Some.place ≡ Some c.in-Some-get.branch.now) c.self.view_is (ap (λ bs. slice_get bs c.in-Some.place) (seconds-zip c.self.inside.names.keys c.self.inside.branches (sym c.self.invariant.as_many)) ∙ sym c.get.ensures ∙ ap option_copied c.in-Some-get.is)

@@ -4,4 +4,4 @@ use Rattle.camp_repo.proofs.states.State.stands.Goals as goal
 
 pub returns : goal.returns
 returns c =
-    c.is_in_some.ensures ∙ sym (zip_stands c.self.inside.names.keys c.self.inside.branches c.args.name.now c.self.invariant.as_many) ∙ ap (λ s. stands s.branches c.args.name.now) c.self.view_is
+    c.has_patch.ensures ∙ sym (zip_stands c.self.inside.names.keys c.self.inside.branches c.args.name.now c.self.invariant.as_many) ∙ ap (λ s. stands s.branches c.args.name.now) c.self.view_is

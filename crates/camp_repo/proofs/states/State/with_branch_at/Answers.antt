@@ -1,4 +1,4 @@
-use Rattle.camp_repo.proofs.Words.{ap, ◌∙◌, ◌<◌, slice_set, sym, subst, AllHold, IsLawfulState}
+use Rattle.camp_repo.proofs.Words.{ap, ◌<◌, sym, subst, AllHold, IsLawfulState}
 use Rattle.camp_repo.proofs.StateSteps.{placed_long, placed_state, within_fields}
 use Rattle.camp_repo.proofs.states.State.with_branch_at.Goals as goal
 
@@ -9,7 +9,7 @@ replaced-requires c =
 pub invariant_of-result : goal.invariant_of-result
 invariant_of-result c =
     let same = ap (λ s. s.keys) c.in_ok-names.ensures in
-    let set = c.in_ok-branches.ensures.exact ∙ ap (slice_set c.self.inside.branches c.args.place) c.in_ok-branch.ensures.exact in
+    let set = c.in_ok-branches.ensures in
     record {
       as_many = placed_long c.self.inside.names.keys c.self.inside.branches c.self.inside.count c.self.inside.limits c.args.self.now c.self.view_is c.self.invariant.as_many c.args.place c.args.branch c.in_ok-names.names.keys c.in_ok-branches.branches same set;
       lawful = subst IsLawfulState (sym (placed_state c.self.inside.names.keys c.self.inside.branches c.self.inside.count c.self.inside.limits c.args.self.now c.self.view_is c.self.invariant.as_many c.args.place c.args.branch c.in_ok-names.names.keys c.in_ok-branches.branches same set)) c.requires.lawful;
@@ -19,5 +19,5 @@ invariant_of-result c =
 pub returns : goal.returns
 returns c =
     let same = ap (λ s. s.keys) c.in_ok-names.ensures in
-    let set = c.in_ok-branches.ensures.exact ∙ ap (slice_set c.self.inside.branches c.args.place) c.in_ok-branch.ensures.exact in
+    let set = c.in_ok-branches.ensures in
     placed_state c.self.inside.names.keys c.self.inside.branches c.self.inside.count c.self.inside.limits c.args.self.now c.self.view_is c.self.invariant.as_many c.args.place c.args.branch c.in_ok-names.names.keys c.in_ok-branches.branches same set

@@ -1,5 +1,5 @@
 use Rattle.camp_catch.proofs.Gains.{met, met_aside}
-use Rattle.camp_catch.proofs.fast.gaining.Gaining.merge_with.Goals as goal
+use Rattle.camp_catch.proofs.fast.gaining.Gaining.merge_with_near.Goals as goal
 
 pub returns-in-Aside : goal.returns-in-Aside
 returns-in-Aside c =
