@@ -18,7 +18,7 @@ class Help(NamedTuple):
     reference: str
 
 
-OPTION = re.compile(r"^  (?:(-\w), |    )(--[\w-]+)(?: <(\w+)>(?:\.\.\.)?)?\s+(.*)$")
+OPTION = re.compile(r"^  (?:(-\w), |    )(--[\w-]+)(?: \[?<(\w+)>(?:\.\.\.)?\]?)?\s+(.*)$")
 
 
 def help_of(program):

@@ -1,6 +1,6 @@
 """camp_shell's conversations are answered byte by byte: examples, short ones, loaded files, and lines at their limits.
 
-Words: examples, conversations, loads, lines, peers, options, terminals name parts; none: all.
+Words: examples, conversations, loads, imports, lines, peers, options, terminals name parts; none: all.
 """
 
 import os
@@ -19,7 +19,8 @@ SECONDS, GATE = 10, "after camp_shell"
 
 def run(report, words):
     shell = Program(report, "camp_shell")
-    parts = {"examples": examples, "conversations": conversations, "loads": loads, "lines": lines, "peers": peers, "options": options, "terminals": terminals}
+    parts = {"examples": examples, "conversations": conversations, "loads": loads, "imports": imports, "lines": lines, "peers": peers, "options": options,
+             "terminals": terminals}
     for name in words or parts:
         parts[name](shell)
 
@@ -102,6 +103,11 @@ def loads(shell):
     count = programs.many(shell.program, 70_000)
     long_load(shell, b"record main p add f\nobliterate main p\n" * (count // 2), oks(count), count + 1)
     long_load(shell, b"names main\n" * count, b"names 0\n" * count, 1)
+
+
+def imports(shell):
+    """The cases of tests/data/imports: streams of git, command lines, and what is written."""
+    sessions.play_all(shell, "imports", "imports")
 
 
 def long_load(shell, commands, answers, number):

@@ -1,5 +1,5 @@
 -- The branches of a book before and after a call.
-use Rattle.std.proofs.Common.{◌≡◌, ◌≢◌, ℕ, Bool, true, false, true≢false, List, [], ◌∷◌, ◌++◌, Option, None, Some, Result, Ok, Err, bytes_eq, cond, is_some, length, nat_le, refl, sym, ap, ◌∙◌, subst}
+use Rattle.std.proofs.Common.{◌≡◌, ◌≢◌, inl, inr, ℕ, Bool, false, List, [], ◌∷◌, ◌++◌, Option, None, Some, Result, Ok, Err, bytes_eq, cond, is_some, length, nat_le, refl, sym, ap, ◌∙◌, subst}
 use Rattle.std.proofs.lemmas.Bool.{cond_both, false_from_ne_true}
 use Rattle.std.proofs.lemmas.Option.{none-some}
 use Rattle.std.specs.Option.{option_and_then, option_map_or}
@@ -104,6 +104,13 @@ refusal_in default other = default
 pub same_refusal : (one other : Refusal) → refused one ≡ refused other → one ≡ other
 same_refusal one other e = ap (refusal_in one) e
 
+-- a branch that is made as a copy was not there
+pub started_is_new : (first branch : List ℕ) (old new : RepositoryBook) → AcceptsNext (call.Branch branch first) old new → branch_in old branch ≡ None
+started_is_new first branch old new accepts =
+    let there = has_branch accepts.before accepts.after first _ accepts.steps in
+    let fresh = passes accepts.before accepts.after (is_some (catches_of accepts.before.branches branch)) (BranchExists branch) _ there.2 in
+    in_state old accepts.before branch accepts.was ∙ is_none _ fresh.0
+
 -- a copy of a branch
 pub starts : (first branch : List ℕ) (old new : RepositoryBook) → AcceptsNext (call.Branch branch first) old new → StartsFrom first branch old new
 starts first branch old new accepts =
@@ -116,6 +123,7 @@ starts first branch old new accepts =
         earlier = accepts.earlier;
         others = λ other differs. in_state new accepts.after other accepts.now ∙ ap (λ (s : Contents). catches_of s.branches other) (sym same) ∙ grown_other accepts.before.branches branch other there.0 differs ∙ sym (in_state old accepts.before other accepts.was);
       };
+      is_new = inr (started_is_new first branch old new accepts);
       catches = there.0;
       was = in_state old accepts.before first accepts.was ∙ there.1;
       becomes = in_state new accepts.after branch accepts.now ∙ ap (λ (s : Contents). catches_of s.branches branch) (sym same) ∙ grown_itself accepts.before.branches branch there.0 (is_none _ fresh.0);
@@ -144,6 +152,7 @@ starts_or first branch old new (Err other) missing answers = absurd answers
 pub starts_there : (first branch : List ℕ) (book : RepositoryBook) → first ≡ branch → IsThere book branch → StartsFrom first branch book book
 starts_there first branch book is there = record {
   only = same_continues branch book book refl;
+  is_new = inl is;
   catches = there.0;
   was = ap (branch_in book) is ∙ there.1;
   becomes = there.1;

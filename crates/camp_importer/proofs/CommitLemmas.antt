@@ -1,5 +1,5 @@
 -- A commit on its branch, step by step.
-use Rattle.std.proofs.Common.{◌≡◌, inl, inr, Bool, List, Option, None, Some, Result, Ok, Err, refl, sym, subst}
+use Rattle.std.proofs.Common.{◌≡◌, inr, Bool, List, Option, None, Some, Result, Ok, Err, refl, sym, subst}
 use Rattle.camp_catch.specs.declared.catches.Catch.{Catch}
 use Rattle.camp_import.specs.declared.commits.Commit.{Commit}
 use Rattle.camp_importer.specs.Calling.{RepositoryBook}

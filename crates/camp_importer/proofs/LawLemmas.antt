@@ -19,7 +19,7 @@ use Rattle.camp_importer.specs.Parts.{recorded_parts}
 use Rattle.camp_importer.specs.declared.importing.Imported.TheVariants.{PassedOver, Recorded}
 use Rattle.camp_importer.specs.declared.places.Place.{Place}
 
-copies_earlier : (from : List ℕ) (copies : List (List ℕ)) (old new : RepositoryBook) → CopiesEach from copies old new → IsEarlier old new
+pub copies_earlier : (from : List ℕ) (copies : List (List ℕ)) (old new : RepositoryBook) → CopiesEach from copies old new → IsEarlier old new
 copies_earlier from [] old new same = earlier_same old new same
 copies_earlier from (copy ∷ copies) old new each = earlier_through each.1.only.earlier (copies_earlier from copies each.0 new each.2)
 

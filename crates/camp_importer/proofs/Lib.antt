@@ -3,6 +3,7 @@ pub mod CallLemmas
 pub mod CommitLemmas
 pub mod CopyLemmas
 pub mod HistoryLemmas
+pub mod KeepLemmas
 pub mod LawLemmas
 pub mod MarkLemmas
 pub mod MomentLemmas

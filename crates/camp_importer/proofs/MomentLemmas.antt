@@ -1,5 +1,5 @@
 -- The moments of a book, found by executing its calls once more.
-use Rattle.std.proofs.Common.{◌≡◌, ℕ, ◌+◌, ◌<◌, ◌≤◌, Bool, true, false, List, [], ◌∷◌, ◌++◌, Option, None, Some, arith, bytes_eq, cond, drop, get_or, is_some, length, take, refl, sym, ap, ◌∙◌, subst}
+use Rattle.std.proofs.Common.{◌≡◌, ℕ, ◌+◌, ◌<◌, ◌≤◌, Bool, true, false, List, [], ◌∷◌, ◌++◌, Option, None, Some, bytes_eq, cond, drop, get_or, is_some, length, take, refl, sym, ap, ◌∙◌, subst}
 use Rattle.std.proofs.lemmas.List.{length-take-le, take-append-drop, take_all, take_more}
 use Rattle.std.proofs.lemmas.Option.{none-some, same_Some}
 use Rattle.std.specs.Cmp.Lexicographic.{slice_cmp}
@@ -9,8 +9,8 @@ use Rattle.std.specs.Option.{option_and_then}
 use Rattle.std.specs.Ordering.{nat_cmp}
 use Rattle.camp_branch.proofs.AgreedFronts.{behind_has}
 use Rattle.camp_branch.proofs.Names.{all_append, name_itself, same_name}
-use Rattle.camp_branch.proofs.Words.{eq_by_cmp, is_eq-slice_cmp, nat_list_cmp_total}
-use Rattle.camp_branch.specs.Branches.{has_patch, recorded}
+use Rattle.camp_branch.proofs.Words.{is_eq-slice_cmp, nat_list_cmp_total}
+use Rattle.camp_branch.specs.Branches.{recorded}
 use Rattle.camp_call.specs.Patches.{IsPatchSized}
 use Rattle.camp_call.specs.declared.calls.Call.{Call}
 use Rattle.camp_call.specs.declared.calls.Call.TheVariants as call

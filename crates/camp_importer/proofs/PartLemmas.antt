@@ -1,5 +1,5 @@
 -- The parts of a commit on its branch, and the tree that they lead to.
-use Rattle.std.proofs.Common.{◌≡◌, ◌≢◌, ℕ, zero, suc, ◌+◌, ◌<◌, ◌==◌, if◌then◌else◌, Bool, true, List, [], ◌∷◌, ◌++◌, None, Some, Result, Ok, Err, arith, bytes_eq, drop, eq-eqb, get_or, length, map, ◌≤◌, take, refl, sym, ap, ◌∙◌, subst, append_assoc, append-nil}
+use Rattle.std.proofs.Common.{◌≡◌, ◌≢◌, ℕ, zero, suc, ◌+◌, ◌<◌, ◌==◌, if◌then◌else◌, Bool, true, List, [], ◌∷◌, ◌++◌, Some, Result, Ok, Err, arith, bytes_eq, drop, eq-eqb, get_or, length, map, ◌≤◌, take, refl, sym, ap, ◌∙◌, subst, append_assoc, append-nil}
 use Rattle.std.proofs.lemmas.Bool.{or_left}
 use Rattle.std.proofs.lemmas.List.{get_or-map}
 use Rattle.std.proofs.lemmas.Option.{same_Some}
@@ -21,7 +21,7 @@ use Rattle.camp_import.specs.TreeChanges.{LeadThrough}
 use Rattle.camp_prim.specs.declared.primitives.Primitive.{Primitive}
 use Rattle.camp_importer.proofs.BranchLemmas.{continues_through, fails_of, same_continues}
 use Rattle.camp_importer.proofs.PullLemmas.{next_left, none_after}
-use Rattle.camp_importer.specs.Calling.{ContinuesOn, FailsOn, IsReason, OrFails, RepositoryBook, branch_in}
+use Rattle.camp_importer.specs.Calling.{ContinuesOn, FailsOn, IsReason, OrFails, RepositoryBook}
 use Rattle.camp_importer.specs.Parts.{HasLongTree, HasNoMark, IsChangeReason, IsRecordReason, LeadsFrom, RecordFails, RecordsFrom, RecordsOnePart, RecordsParts, RecordsTree, RecordsTreeOr, recorded_parts}
 use Rattle.camp_importer.specs.Steps.{RecordsBy, RecordsPatch}
 use Rattle.camp_importer.specs.declared.faults.Reason.{Reason}

@@ -11,7 +11,6 @@ use Rattle.camp_branch.specs.Branches.{first_lacked, has_patch, is_among, name_o
 use Rattle.camp_branch.specs.Pulling.{Outcome}
 use Rattle.camp_branch.specs.declared.faults.Blocked.TheVariants as blocked
 use Rattle.camp_call.specs.declared.calls.Call.TheVariants as call
-use Rattle.camp_call.specs.declared.calls.Call.{Call}
 use Rattle.camp_call.specs.declared.replies.Refusal.{Refusal}
 use Rattle.camp_call.specs.declared.replies.Refusal.TheVariants as refusal
 use Rattle.camp_catch.specs.declared.catches.Catch.{Catch}
@@ -20,14 +19,14 @@ use Rattle.camp_repo.proofs.Effects.{accepted_calls}
 use Rattle.camp_repo.specs.Laws.{Has, Pulls}
 use Rattle.camp_repo.specs.Outcomes.{pulled}
 use Rattle.camp_repo.specs.States.{Contents, catches_of}
-use Rattle.camp_repo.specs.Steps.{Decision, becomes, is_empty, is_full_with, refused, refused_if, step, wanted}
+use Rattle.camp_repo.specs.Steps.{Decision, becomes, is_empty, is_full_with, refused, refused_if, wanted}
 use Rattle.camp_importer.proofs.BranchLemmas.{call_fails, continues_through, fails_of, fails_through, in_state, one_changes, same_continues, same_refusal}
 use Rattle.camp_importer.specs.Calling.{AcceptsNext, AnswersCall, ContinuesOn, FailsOn, GivesOrFails, RefusesCall, RepositoryBook, branch_in, pull_outcome, refused_outcome}
-use Rattle.camp_importer.specs.Steps.{ArePulled, CopiesFirst, GathersFrom, HasPatchIn, HasPatchesOf, HasThoseOf, IsBlockingRefusal, IsBlockedPull, JoinsBy, JoinsParents, JoinsPatches, OneHasPatch, PullsAll, PullsEach, PullsFromOne, PullsUnlessBlocked, StartsFrom, WasBlocked}
+use Rattle.camp_importer.specs.Steps.{ArePulled, CopiesFirst, HasPatchesOf, IsBlockingRefusal, IsBlockedPull, JoinsBy, JoinsParents, JoinsPatches, OneHasPatch, PullsAll, PullsEach, PullsFromOne, PullsUnlessBlocked, StartsFrom, WasBlocked}
 use Rattle.camp_importer.specs.declared.faults.Reason.{Reason}
 use Rattle.camp_importer.specs.declared.faults.Reason.TheVariants as reason
 
-differ : (from to : List ℕ) → bytes_eq from to ≡ false → from ≢ to
+pub differ : (from to : List ℕ) → bytes_eq from to ≡ false → from ≢ to
 differ from to e = λ same. true≢false (sym (name_itself from) ∙ ap (bytes_eq from) same ∙ e)
 
 -- what is had, or wanted and brought
@@ -361,6 +360,7 @@ joins first others branch pulled old started new starts pulls =
     let gathered = pulls.gathers starts.catches starts.becomes in
     record {
       only = continues_through branch old started new starts.only pulls.only;
+      is_new = starts.is_new;
       ours = starts.catches;
       was = starts.was;
       gathers = record {

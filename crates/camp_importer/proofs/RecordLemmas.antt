@@ -1,5 +1,5 @@
 -- A patch on its branch, and the tree that it leads to.
-use Rattle.std.proofs.Common.{◌≡◌, ℕ, ◌<◌, true, List, [], ◌∷◌, ◌++◌, Some, Result, Ok, Err, arith, bytes_eq, length, refl, sym, ap, ◌∙◌, subst}
+use Rattle.std.proofs.Common.{◌≡◌, ℕ, ◌<◌, true, List, [], ◌∷◌, Result, Ok, Err, arith, bytes_eq, length, refl, ◌∙◌}
 use Rattle.std.proofs.lemmas.Bool.{or_left}
 use Rattle.camp_branch.proofs.AgreedFronts.{behind_has, front_has}
 use Rattle.camp_branch.proofs.BranchTrees.{recorded_tree}
@@ -7,7 +7,6 @@ use Rattle.camp_branch.proofs.Names.{name_itself}
 use Rattle.camp_branch.specs.Branches.{has_patch, recorded}
 use Rattle.camp_call.specs.Patches.{IsPatchSized}
 use Rattle.camp_call.specs.declared.calls.Call.TheVariants as call
-use Rattle.camp_catch.specs.declared.catches.Catch.{Catch}
 use Rattle.camp_prim.specs.declared.primitives.Primitive.{Primitive}
 use Rattle.camp_repo.proofs.Effects.{accepted_calls}
 use Rattle.camp_repo.specs.Laws.{Records}

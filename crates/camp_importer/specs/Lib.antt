@@ -2,6 +2,7 @@ pub mod Calling
 pub mod Commits
 pub mod Copies
 pub mod Histories
+pub mod Keeping
 pub mod Laws
 pub mod Moments
 pub mod Parents

@@ -40,9 +40,10 @@ RecordsBy name branch changes made got = made ≡ call.Record branch name change
 abbrev pub HasPatchesOf : List Catch → List Catch → Type 0
 HasPatchesOf others catches = (name : List ℕ) → has_patch others name ≡ true → has_patch catches name ≡ true
 
--- a branch has the catches that another one had
+-- a branch has the catches that another one had; it is that one, or a new branch
 pub record StartsFrom (first branch : List ℕ) (old new : RepositoryBook) : Type 0 where
   pub only : ContinuesOn branch old new
+  pub is_new : (first ≡ branch) ⊎ (branch_in old branch ≡ None)
   pub catches : List Catch
   pub was : branch_in old first ≡ Some catches
   pub becomes : branch_in new branch ≡ Some catches
@@ -123,9 +124,11 @@ pub record PullsEach (pulled : Bool) (others : List (List ℕ)) (branch : List �
   pub only : ContinuesOn branch old new
   pub gathers : (ours : List Catch) → branch_in old branch ≡ Some ours → GathersFrom pulled others branch old new ours
 
--- a branch has the patches that the branch of the first parent had, and gathers those of others
+-- a branch has the patches that the branch of the first parent had, and gathers those of others; it is that branch, or
+-- a new one
 pub record JoinsParents (pulled : Bool) (first : List ℕ) (others : List (List ℕ)) (branch : List ℕ) (old new : RepositoryBook) : Type 0 where
   pub only : ContinuesOn branch old new
+  pub is_new : (first ≡ branch) ⊎ (branch_in old branch ≡ None)
   pub ours : List Catch
   pub was : branch_in old first ≡ Some ours
   pub gathers : GathersFrom pulled others branch old new ours

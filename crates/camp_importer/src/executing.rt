@@ -7,7 +7,7 @@ use crate::Reason;
 use camp_repo::{Book, Call, Reply, State};
 
 /// Executes a call that writes.
-pub(crate) fn execute(book: &mut Book<State>, seat: u32, call: &Call) -> Result<(), Reason>
+pub fn execute(book: &mut Book<State>, seat: u32, call: &Call) -> Result<(), Reason>
     ensures { AnswersCall call.now book.old result book.new }
 {
     // Calling `count` tells the prover, by its clauses, that the state is lawful.

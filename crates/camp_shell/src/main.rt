@@ -11,6 +11,7 @@
 #![tactic(auto)]
 
 mod conversations;
+mod imports;
 mod stops;
 mod stores;
 mod words;
@@ -20,6 +21,7 @@ use camp_git::export;
 use camp_options::{WordsFault, command_line, read_limits};
 use camp_talk::{Book, Conversation, FramedConversation, Limits, State, TalkFault, load, new_book};
 use conversations::{Ending, ONE_BY_ONE, talk_in_frames, talk_in_lines};
+use imports::import_into;
 use std::fs::{self, File};
 use std::io::{BufReader, Read};
 use std::process::ExitCode;
@@ -47,6 +49,9 @@ fn hold<'a>(rt: &HostRuntime, words: &'a [String]) -> Result<(), Stop<'a>> {
     let wish = wish_of(rt.alloc(), words).map_err(WordsFault::from)?;
     if let Some(store) = wish.checked {
         return check_store(rt, store);
+    }
+    if let (Some(store), Some(source)) = (wish.store, wish.import) {
+        return import_into(rt, store, source, limits_of(&wish)?, &wish);
     }
     if let Some(store) = wish.store {
         return hold_stored(rt, store, limits_of(&wish)?, &wish);

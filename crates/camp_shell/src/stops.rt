@@ -1,9 +1,14 @@
 //! Why the program ends before its input does, and how it reports that.
+use bstr::BStr;
 use camp_git::Unexported;
+use camp_importer::{ImportFault, Reason};
 use camp_kept_talk::PersistenceFault;
 use camp_options::{WordsFault, report_fault, report_unwritten};
+use camp_repo::Reply;
+use camp_script::{reply_text, without_end};
 use camp_talk::{FrameFault, LoadFault, TalkFault};
 use std::alloc::AllocError;
+use std::fmt::Display;
 use std::io;
 
 /// Why the program ends before its input does.
@@ -27,6 +32,12 @@ pub(crate) enum Stop<'a> {
     Store(&'a str, PersistenceFault),
     /// Another process uses the store.
     InUse(&'a str),
+    /// A commit of a stream was not brought in.
+    Commit(&'a str, ImportFault),
+    /// The branches of a stream's tips were not made.
+    Tips(&'a str, Reason),
+    /// Why the program ends was reported already; its exit status.
+    Reported(u8),
     /// The path of the store is a folder, a device or a pipe; or a file with several hard links, which only a
     /// check accepts.
     NotPlain(&'a str),
@@ -36,7 +47,7 @@ const PROGRAM: &str = "camp_shell";
 
 impl Stop<'_> {
     /// Reports why, and returns the exit status.
-    pub(crate) fn report<R: Print + Eprint>(&self, rt: &R) -> u8 {
+    pub(crate) fn report<R: Print + Eprint + AllocGlobal>(&self, rt: &R) -> u8 {
         match self {
             Stop::Words(fault) => fault.report(rt, PROGRAM),
             Stop::Open(file, error) => {
@@ -68,6 +79,16 @@ impl Stop<'_> {
                     3,
                 )
             }
+            Stop::Commit(source, fault) => {
+                report_reason(
+                    rt,
+                    source,
+                    &format_args!("commit {}", fault.commit),
+                    &fault.why,
+                )
+            }
+            Stop::Tips(source, why) => report_reason(rt, source, &"branches", why),
+            Stop::Reported(status) => *status,
             Stop::Talk(fault) | Stop::Frame(FrameFault::Talk(fault)) => report_talk_fault(
                 rt, fault,
             ),
@@ -94,6 +115,34 @@ fn report_talk_fault<R: Print + Eprint>(rt: &R, fault: &TalkFault) -> u8 {
         TalkFault::Memory | TalkFault::Internal => {
             report_fault(rt, PROGRAM, fault, fault.status())
         }
+    }
+}
+
+// Reports why a commit of a stream, or the branches of its tips, were not brought in, and returns the exit status. A
+// refusal is reported as a conversation answers it.
+fn report_reason<R: Eprint + AllocGlobal, F: Display>(
+    rt: &R,
+    source: &str,
+    subject: &F,
+    why: &Reason,
+) -> u8 {
+    let Reason::Refused(refusal) = why else {
+        let status = if let Reason::Memory = why { 3 } else { 1 };
+        return report_fault(
+            rt,
+            PROGRAM,
+            &format_args!("{source}: {subject}: {why}"),
+            status,
+        );
+    };
+    match reply_text(rt.alloc(), &Reply::Refused(*refusal)) {
+        Ok(text) => report_fault(
+            rt,
+            PROGRAM,
+            &format_args!("{source}: {subject}: {}", BStr::new(without_end(&text))),
+            1,
+        ),
+        Err(_) => report_fault(rt, PROGRAM, &"out of memory", 3),
     }
 }
 

@@ -70,9 +70,9 @@ fn stop_of<'a>(store: &'a str, ending: Ending<PersistenceFault>) -> Stop<'a> {
     }
 }
 
-// Opens a store, and reports the length of its torn tail. If the file is not a store, the log next to it belongs to
-// another program and is kept, unless the opening made it.
-fn open_store<'a>(
+/// Opens a store, and reports the length of its torn tail. If the file is not a store, the log next to it belongs to
+/// another program and is kept, unless the opening made it.
+pub(crate) fn open_store<'a>(
     rt: &HostRuntime,
     store: &'a str,
     wanted: Option<Limits>,

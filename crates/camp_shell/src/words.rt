@@ -1,4 +1,5 @@
 //! The words of the command line.
+use crate::imports::STANDARD_INPUT;
 use camp_options::VERSION;
 use clap::{Arg, ArgAction, Command, Error};
 use std::alloc::{AllocError, Global};
@@ -11,6 +12,10 @@ pub(crate) struct Wish<'a> {
     pub(crate) files: Vec<&'a str>,
     /// The branch that is written for git instead of holding a conversation.
     pub(crate) export: Option<&'a str>,
+    /// The file with a stream of git that is imported into the store, or `-` for standard input.
+    pub(crate) import: Option<&'a str>,
+    /// Whether progress is reported also if standard error is no terminal.
+    pub(crate) progress: bool,
     /// The file in which the repository is persisted.
     pub(crate) store: Option<&'a str>,
     /// The text given to `--limits`, if any.
@@ -73,6 +78,15 @@ refs/heads/BRANCH a commit for each patch, with the files of the branch up to it
 contain is refused before anything is written: a file that is also a folder, and a path with .git
 between its /.
 
+With --import no commands are read. A history of git, written by git fast-export --all
+--show-original-ids --use-done-feature, is imported from this file or standard input into the store:
+each commit is a patch named by its id, or several if it has over 64 changes, and is durable before
+the next one begins. Commits that the store has are skipped. A branch has its name in small letters,
+with - for other signs; one that has other patches stays as it is. Authors, dates, messages and tags
+are not kept. A fault is reported by its line, commit and path; the commits before it stay. Standard
+error has counts at the end: commits, new ones, new merges, merges whose pull was blocked, branches
+left as they are; and each second, at a terminal or with --progress, how far the import is.
+
 With --store the repository is stored in this file, which is made if it does not exist: each
 accepted call is durable before it is answered, and the next conversation over the file continues
 from there. Files that are loaded are stored, too, all or none. If calls can't be stored, they are
@@ -84,7 +98,8 @@ docs/store.md has more.
 Exit status:
   0  the input has ended, whatever was answered
   1  a command of a file was answered by fault or refused; with --export, there is no such branch, or git
-     can't contain it; with --frames, a line that is not a number, a greater number, or an input that ends
+     can't contain it; with --import, a stream with a fault, or a commit that camp can't
+     contain; with --frames, a line that is not a number, a greater number, or an input that ends
      inside a request
   2  the command line is refused
   3  out of memory for the lines of a command or for a command of a file, or a file, input or output failed;
@@ -115,6 +130,8 @@ pub(crate) fn wish_of<'a, S: AsStr>(alloc: Global, words: &'a [S]) -> Result<Wis
     Ok(Wish {
         files,
         export,
+        import: matches.get_str("import"),
+        progress: matches.get_flag("progress"),
         store: matches.get_str("store"),
         limits: matches.get_str("limits"),
         checked: matches.get_str("check-store"),
@@ -136,6 +153,8 @@ fn options<'a>(alloc: Global) -> Result<Vec<Arg<'a>>, AllocError> {
     let mut options = Vec::new(alloc);
     options.push(load(alloc))?;
     options.push(export(alloc))?;
+    options.push(import(alloc)?)?;
+    options.push(progress(alloc)?)?;
     options.push(frames(alloc)?)?;
     options.push(prompt(alloc)?)?;
     options.push(store(alloc))?;
@@ -158,6 +177,33 @@ fn export<'a>(alloc: Global) -> Arg<'a> {
         .long("export")
         .value_name("BRANCH")
         .help("Write this branch as a stream for git fast-import, and end")
+}
+
+fn import<'a>(alloc: Global) -> Result<Arg<'a>, AllocError> {
+    Arg::new(alloc, "import")
+        .long("import")
+        .num_args(0..=1)
+        .default_missing_value(STANDARD_INPUT)
+        .value_name("FILE")
+        .help(
+            "Import a stream of git fast-export from this file or standard input into the store, and end",
+        )
+        .requires_arg("store")?
+        .conflicts_with("load")?
+        .conflicts_with("export")?
+        .conflicts_with("frames")?
+        .conflicts_with("prompt")?
+        .conflicts_with("check-store")
+}
+
+fn progress<'a>(alloc: Global) -> Result<Arg<'a>, AllocError> {
+    Arg::new(alloc, "progress")
+        .long("progress")
+        .action(ArgAction::SetTrue)
+        .help(
+            "Report each second how many commits are imported, also if standard error is no terminal",
+        )
+        .requires_arg("import")
 }
 
 fn frames<'a>(alloc: Global) -> Result<Arg<'a>, AllocError> {

@@ -1,2 +1,4 @@
+pub mod Adding
 pub mod Inside
 pub mod Reading
+pub mod Transfers

@@ -2,6 +2,8 @@
 
 use bstr::BStr;
 use camp_commits::CommandFault;
+use camp_importer::{ImportFault, Reason};
+use camp_kept::PersistenceFault;
 use camp_stream::StreamFaultKind;
 use std::fmt;
 
@@ -54,4 +56,15 @@ pub struct StreamStop<'a> {
     pub why: StopReason<'a>,
     /// The number of bytes from the fault to the end of the stream; for a command that can't be applied, from its start.
     pub left: usize,
+}
+
+/// Why a commit, or the branches of the tips, are not imported.
+#[derive(Clone, Copy, Debug)]
+pub enum TransferFault {
+    /// This commit is not imported.
+    Commit(ImportFault),
+    /// The branches of the tips are not made.
+    Tips(Reason),
+    /// The calls are not durable.
+    Store(PersistenceFault),
 }

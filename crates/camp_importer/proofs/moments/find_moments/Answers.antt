@@ -1,4 +1,4 @@
-use Rattle.std.proofs.Common.{◌≡◌, ◌<◌, ◌≤◌, arith, get_or, length, ◌∙◌, ap}
+use Rattle.std.proofs.Common.{◌<◌, ◌≤◌, arith, get_or, length, ◌∙◌, ap}
 use Rattle.camp_repo.specs.States.{new_within}
 use Rattle.camp_importer.proofs.MomentLemmas.{so_far_counts, so_far_end, so_far_on, so_far_start}
 use Rattle.camp_importer.proofs.moments.find_moments.Goals as goal

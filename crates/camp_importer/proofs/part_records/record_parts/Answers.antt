@@ -4,10 +4,9 @@ use Rattle.camp_prim.specs.declared.primitives.Primitive.{Primitive}
 use Rattle.camp_importer.specs.Calling.{FailsOn}
 use Rattle.camp_importer.specs.Steps.{RecordsBy, RecordsPatch}
 use Rattle.camp_import.specs.Parts.{part_name}
-use Rattle.camp_importer.proofs.BranchLemmas.{fails_through, plainly_fails}
+use Rattle.camp_importer.proofs.BranchLemmas.{fails_through}
 use Rattle.camp_importer.proofs.PartLemmas.{items_of, part_at, part_fails, recorded_end, recorded_on, recorded_start}
 use Rattle.camp_importer.specs.Parts.{RecordsOnePart}
-use Rattle.camp_importer.specs.declared.faults.Reason.TheVariants as reason
 use Rattle.camp_importer.proofs.part_records.record_parts.Goals as goal
 
 pub parts-init : goal.parts-init

@@ -1,4 +1,4 @@
-use Rattle.std.proofs.Common.{◌&&◌, Bool, arith, drop, length, ◌+◌, ◌≤◌, subst, sym}
+use Rattle.std.proofs.Common.{Bool, arith, drop, length, ◌+◌, ◌≤◌, subst, sym}
 use Rattle.camp_importer.proofs.BranchLemmas.{fails_through}
 use Rattle.camp_importer.proofs.PullLemmas.{IsPulledSoFar, one_of_all, pulled_end, pulled_on, pulled_start}
 use Rattle.camp_importer.specs.Steps.{PullsFromOne}

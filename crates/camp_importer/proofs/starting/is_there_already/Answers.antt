@@ -1,4 +1,4 @@
-use Rattle.std.proofs.Common.{◌∙◌, ap, subst, sym, true, false, List, ℕ, Bool, true≢false}
+use Rattle.std.proofs.Common.{◌∙◌, subst, sym, true, false, List, ℕ, Bool, true≢false}
 use Rattle.std.proofs.lemmas.Slice.Eq.{bytes_eq-Decides}
 use Rattle.camp_importer.specs.Parts.{FindsBranch, IsThere}
 use Rattle.camp_importer.proofs.starting.is_there_already.Goals as goal

@@ -89,3 +89,14 @@ fn first_parent<'a>(commit: &Commit, indices: &'a Indices) -> Option<&'a usize> 
     let parent = commit.parents.first()?;
     indices.get(parent)
 }
+
+/// Returns the id of the last commit of a line.
+pub(crate) fn last_of(lines: &[Option<Name>], commits: &[Commit], line: Name) -> Option<Name> {
+    let mut last = None;
+    for index in 0..commits.len() {
+        if is_on_line(lines, index, line) {
+            last = Some(commits[index].id);
+        }
+    }
+    last
+}
