@@ -16,8 +16,9 @@ import threading
 import time
 
 from camp import Repository
+from camp._entries import CALLS, calls_of
 from camp.logs import AppendOutcome, Away, open_log
-from camp.shared import CALLS, NOT_READ, NOT_TAKEN, Member, Stopped, calls_of, turn, what_if
+from camp.shared import NOT_READ, NOT_TAKEN, Member, Stopped, turn, what_if
 from member_model import ModelMember
 
 NO_REPLY = (b"stopped\n", NOT_READ, NOT_TAKEN)

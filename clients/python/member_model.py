@@ -8,8 +8,9 @@ import os
 from typing import Any, Deque, Dict, List, NamedTuple, Optional, Sequence, Tuple
 
 from camp import Repository
+from camp._entries import CALLS, NOTE, calls_of
 from camp.logs import limits_of
-from camp.shared import CALLS, NOT_READ, NOT_TAKEN, NOTE, Stopped, calls_of, what_if
+from camp.shared import NOT_READ, NOT_TAKEN, Stopped, what_if
 
 MAX_CALLS = 256
 MAX_BYTES = 1 << 20

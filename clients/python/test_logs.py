@@ -8,6 +8,7 @@ import tempfile
 import threading
 import time
 import unittest
+import unittest.mock
 
 from camp import Add, Edit, NoBranch, PatchExists, TooLarge
 from camp.logs import TITLE, AppendOutcome, Away, Damaged, Foreign, RememberedLog, SqliteLog, open_log, title_with
@@ -245,6 +246,25 @@ class SharedRepository(unittest.TestCase):
         calls = [(b"branch b%d main\n" % (number % 250), b"") for number in range(255)]
         self.assertEqual(anna.write_all(calls)[249:252], [b"ok 250\n", b"refused 5 b0\n", b"refused 5 b1\n"])
         self.assertEqual(anna.entries, 2)
+
+    def test_a_repository_catches_up_in_steps(self):
+        anna = self.share()
+        calls = [(b"record main p%d add f%d\n" % (at, at), b"note %d" % at) for at in range(5)]
+        with unittest.mock.patch("camp.shared.AT_ONCE", 2):
+            anna.write_all(calls)
+            self.assertEqual((len(anna.notes), anna.notes["p4"], len(anna.history())), (5, b"note 4", 5))
+            anna.write_all([(b"record main p0 add g\n", b"refused"), (b"record main p5 add g\n", b"")])
+            self.assertEqual((anna.names("main"), anna.accepted), (["p%d" % at for at in range(6)], 6))
+        self.assertEqual((anna.notes, anna.tree("main")), (self.share().notes, self.share().tree("main")))
+
+    def test_questions_are_answered_while_another_thread_writes(self):
+        anna, seen = self.share(), []
+        writer = threading.Thread(target=lambda: [anna.branch("b%d" % at, "main") for at in range(40)])
+        writer.start()
+        while writer.is_alive():
+            seen.append(anna.branches())
+        self.assertEqual(anna.branches(), ["main"] + ["b%d" % at for at in range(40)])
+        self.assertTrue(all(one == anna.branches()[:len(one)] for one in seen))
 
     def test_a_question_follows_what_was_seen(self):
         anna, ben = self.share(), self.share()

@@ -8,9 +8,10 @@ import sqlite3
 import tempfile
 import time
 
+from tests.bench.clients import at_once, awaited
 from tests.harness import programs
 from tests.harness.paths import write
-from tests.harness.store import Store, long_script
+from tests.harness.store import Store, long_script, oks
 
 SECONDS, GATE = 60, "never"
 ALONE, PIPED, BATCH, LONG, TIMES = 2000, 60000, 256, 65536, 3
@@ -20,8 +21,9 @@ def run(report, words):
     with tempfile.TemporaryDirectory(dir=words[0] if words else None) as folder:
         store, commands = Store(report, folder), long_script(PIPED)
         few, place = commands[:ALONE], lambda *parts: store.path("-".join(map(str, parts)))
-        report.note(f"store, one by one: {median(lambda turn: alone(store, place('a', turn), few)):.0f} calls a second")
-        report.note(f"store, in a pipe: {median(lambda turn: piped(store, place('p', turn), commands)):.0f} calls a second")
+        report.note(f"store, one by one: {median(lambda turn: awaited(store.words(place('a', turn)), few)):.0f} calls a second")
+        piped = median(lambda turn: at_once(report, store.words(place("p", turn)), commands, oks(PIPED)))
+        report.note(f"store, in a pipe: {piped:.0f} calls a second")
         for journal in ("delete", "wal"):
             for what, some, batch in (("one by one", few, 1), (f"by {BATCH}", commands, BATCH)):
                 rate = median(lambda turn: inserts(place(journal, batch, turn), journal, some, batch))
@@ -45,23 +47,6 @@ def seconds_of(words):
     started = time.time()
     programs.run(words)
     return time.time() - started
-
-
-def alone(store, path, commands):
-    peer = store.start(path)
-    started = time.time()
-    for command in commands:
-        programs.send(peer, command)
-        peer.stdout.readline()
-    rate = len(commands) / (time.time() - started)
-    peer.communicate()
-    return rate
-
-
-def piped(store, path, commands):
-    started = time.time()
-    store.run(path, b"".join(commands))
-    return len(commands) / (time.time() - started)
 
 
 def inserts(path, journal, commands, batch):

@@ -3,6 +3,7 @@
 Words: kills, calls, images name parts; all: each part tries all that it can; a number: kills at random moments.
 """
 
+import contextlib
 import errno
 import itertools
 import os
@@ -20,65 +21,50 @@ SECONDS, GATE = 30, "after camp_shell"
 WAYS = (True, False)
 BEFORE, MORE = 2, 3
 # After so many kills a store is begun anew, so that each opening takes a few milliseconds.
-LIVES = 10
+LIVES = 5
 # The most calls in one batch.
 BATCH = 256
 
 
 def run(report, words):
-    parts = {"kills": kills, "calls": at_calls, "images": images}
     number = next((int(it) for it in words if it.isdigit()), 300)
+    parts = {"kills": lambda store: kills(store, number), "calls": at_calls, "images": images}
     for name in [it for it in words if it in parts] or parts:
+        if name != "kills" and not tracing.can_trace():
+            report.skip(f"{name}: no program can be traced here")
+            continue
         with tempfile.TemporaryDirectory(prefix="crash-") as folder:
-            store = Store(report, folder, "all" in words)
-            if name == "kills":
-                kills(store, number)
-            elif tracing.can_trace():
-                parts[name](store)
-            else:
-                report.skip(f"{name}: no program can be traced here")
+            parts[name](Store(report, folder, "all" in words))
 
 
 def kills(store, number):
-    """Killed at a random moment: each answered call is there, and one batch at most beyond."""
-    durable = {}
-    for at in range(number):
-        batch = at % 2 == 1
-        if at % LIVES < 2:
-            path = store.path(f"store-{at}")
-            durable = {False: 0, True: 0}
-        name = f"{path}-{batch}"
-        answered, sent = killed(store, name, durable[batch], batch)
-        found = store.check(name) if os.path.exists(name) else 0
-        least, most = durable[batch] + answered, durable[batch] + sent
-        if not isinstance(found, int) or not least <= found <= min(most, least + (BATCH if batch else 1)):
-            store.fail(f"kill {at}: {least} were answered and {most} sent, but the store has {found}")
-            return
-        durable[batch] = found
-        store.count("kills")
-        if at % LIVES >= LIVES - 2:
-            text = b"".join(calls(found))
-            store.expect("the first calls that were sent, in order", store.run(name, b"keep\n").stdout, b"keep %d\n%s" % (text.count(b"\n"), text))
-            if os.path.exists(name):
-                os.remove(name)
+    """Killed at random moments: each answered call is there, and one batch at most beyond."""
+    for at in range(0, number, LIVES):
+        path, is_batch, durable = store.path(f"store-{at}"), at // LIVES % 2 == 1, 0
+        for _ in range(LIVES):
+            answered, sent = killed(store, path, durable, is_batch)
+            found = store.check(path) if os.path.exists(path) else 0
+            least, most = durable + answered, durable + sent
+            if not isinstance(found, int) or not least <= found <= min(most, least + (BATCH if is_batch else 1)):
+                return store.fail(f"a kill behind {at}: {least} were answered and {most} sent, but the store has {found}")
+            durable = found
+            store.count("kills")
+        text = b"".join(calls(durable))
+        store.expect("the first calls that were sent, in order", store.run(path, b"keep\n").stdout, b"keep %d\n%s" % (durable, text))
+        os.remove(path)
 
 
-def killed(store, path, first, batch):
+def killed(store, path, first, is_batch):
     """Starts the program, sends it calls, and kills it: how many were answered, and how many were sent."""
-    peer = store.start(path)
-    answered, sent, limit = b"", 0, random.randrange(1, 400 if batch else 12)
-    try:
-        if batch:
-            programs.send(peer, b"".join(calls(limit, first)))
-            sent = limit
-        while sent < limit:
-            programs.send(peer, calls(1, first + sent)[0])
-            sent += 1
-            if sent < limit:
+    peer, new = store.start(path), calls(random.randrange(1, 400 if is_batch else 12), first)
+    answered, sent = b"", 0
+    with contextlib.suppress(BrokenPipeError):
+        for text in [b"".join(new)] if is_batch else new:
+            programs.send(peer, text)
+            sent += text.count(b"\n")
+            if sent < len(new):
                 answered += peer.stdout.readline()
-        time.sleep(random.random() * (0.03 if batch else 0.004))
-    except BrokenPipeError:
-        pass
+        time.sleep(random.random() * (0.03 if is_batch else 0.004))
     peer.send_signal(signal.SIGKILL)
     answered += peer.stdout.read()
     peer.communicate()
@@ -87,16 +73,15 @@ def killed(store, path, first, batch):
 
 def prepared(store, what):
     """The path of a store of a few calls, or of none yet, and how many calls it has."""
-    path = store.path(what)
-    if os.path.exists(path):
+    path, first = store.path(what), BEFORE if what == "opened" else 0
+    if first:
+        write(path, encode([TITLE, *calls(first)]))
+    elif os.path.exists(path):
         os.remove(path)
-    if what == "opened":
-        write(path, encode([TITLE, *calls(BEFORE)]))
-        return path, BEFORE
-    return path, 0
+    return path, first
 
 
-def trace(store, path, first, alone, at_call=lambda number, call: None):
+def trace(store, path, first, alone, at_call=lambda call: None):
     return tracing.run(store.words(path), calls(MORE, first), alone, at_call)
 
 
@@ -134,7 +119,7 @@ def in_turn(store, what, alone, is_met, decision):
         path, first = prepared(store, what)
         met = []
 
-        def at_call(number, call):
+        def at_call(call):
             if is_met(call):
                 met.append(call)
             return decision if is_met(call) and len(met) == turn + 1 else None
@@ -169,23 +154,22 @@ def fail_each(store, what, alone, error):
 
 def cut_writes(store, what, alone, step):
     """Writes of the store are cut short at each length: they are completed all the same."""
-    length, cut = 1, True
-    while cut:
+    for length in itertools.count(1, step):
         path, first = prepared(store, what)
-        cut = False
+        cut = []
 
-        def at_call(number, call):
-            nonlocal cut
+        def at_call(call):
             if call.name == "pwrite" and len(call.data) > length:
-                cut = True
-                return ("short", length)
+                cut.append(call)
+                return "short", length
             return None
 
         status, out, _, _ = trace(store, path, first, alone, at_call)
         store.expect(f"{what}, by {length} bytes", (status, out.count(b"\n")), (0, MORE))
         store.expect(f"{what}, by {length} bytes", read(path), encode([TITLE, *calls(first + MORE)]))
-        length += step
         store.count("cut writes")
+        if not cut:
+            break
 
 
 def images(store):

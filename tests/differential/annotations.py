@@ -9,6 +9,7 @@ patches then, `annotate` has to agree on each file. And each line of each branch
 import itertools
 
 from tests.harness import programs
+from tests.harness.conversation import respond
 from tests.harness.scripts import Chance, Maker
 
 SECONDS, GATE = 6, "after camp_shell"
@@ -23,15 +24,6 @@ def run(report, words):
         report.count("histories")
     if not report.counts.get("conflicts"):
         report.fail("no pair of branches has a conflict")
-
-
-def respond(program, requests):
-    """The response to each request, in frames."""
-    rest = programs.run([program, "--frames"], b"".join(b"%d\n%s" % (len(it), it) for it in requests)).stdout
-    while rest:
-        size, _, rest = rest.partition(b"\n")
-        yield rest[: int(size)].decode()
-        rest = rest[int(size) :]
 
 
 class History:
@@ -49,7 +41,8 @@ class History:
         questions = [(word, it) for word in ("names", "conflicts") for it in self.branches]
         questions += [("annotate", it, path) for it in self.branches for path in self.paths]
         questions += [("show", it, f"p{k}") for it in self.branches for k in range(1, maker.patches + 1)]
-        found = list(respond(program, [script, *map(str.encode, pulls), *(" ".join(it).encode() for it in questions)]))
+        requests = [script, *map(str.encode, pulls), *(" ".join(it).encode() for it in questions)]
+        found = [it.decode() for it in respond([program], requests)]
         assert len(found) == 1 + len(pulls) + len(questions), f"seed {seed}: {len(found)} responses"
         self.responses = dict(zip(questions, found[1 + len(pulls) :]))
 

@@ -4,18 +4,23 @@ Words: FILE ..: these scripts, or those in these folders; --random FIRST LAST: r
 Each branch is exported by `camp_shell --export` into `git fast-import`.
 """
 
+import glob
+import io
 import os
 import shutil
+import tarfile
 import tempfile
 
 from tests.harness import programs
-from tests.harness.conversation import responses
+from tests.harness.conversation import respond
 from tests.harness.paths import EXAMPLES, read, write
 from tests.harness.scripts import script_of
 
 SECONDS, GATE = 14, "after camp_shell"
 # A branch of so many copies is asked in one conversation.
 STEP = 60
+# The mode of a file of mode 100644 in an archive.
+PLAIN = 0o664
 
 
 def run(report, words):
@@ -27,24 +32,15 @@ def run(report, words):
 
 
 def scripts(words):
-    if words[:1] == ["--random"]:
-        return random_scripts(int(words[1]), int(words[2]))
-    if words:
-        return of_files(words)
-    files = [f"{EXAMPLES}/{it}" for it in sorted(os.listdir(EXAMPLES)) if it.endswith((".camp", ".talk"))]
-    return [*of_files(files), *random_scripts(1, 50)]
-
-
-def random_scripts(first, last):
-    return ((f"random {seed}", script_of(seed)) for seed in range(first, last + 1))
-
-
-def of_files(names):
-    for name in names:
-        if os.path.isdir(name):
-            yield from of_files(f"{name}/{it}" for it in sorted(os.listdir(name)))
-        else:
-            yield name, read(name)
+    """The scripts, each with its name."""
+    is_random = words[:1] == ["--random"]
+    first, last = map(int, words[1:3]) if is_random else (1, 0 if words else 50)
+    files = [] if is_random else words or sorted(it for end in ("camp", "talk") for it in glob.glob(f"{EXAMPLES}/*.{end}"))
+    for name in files:
+        for path in sorted(glob.glob(f"{name}/**", recursive=True)) if os.path.isdir(name) else [name]:
+            if os.path.isfile(path):
+                yield path, read(path)
+    yield from ((f"random {seed}", script_of(seed)) for seed in range(first, last + 1))
 
 
 class Repository:
@@ -65,29 +61,24 @@ class Repository:
 
     def tree(self, commit):
         """The files of a commit: each path with its content; all are plain ones."""
-        paths, wanted = [], b""
-        for entry in self.git("ls-tree", "-r", "-z", commit.decode()).stdout.split(b"\0")[:-1]:
-            told, path = entry.split(b"\t", 1)
-            mode, kind, name = told.split()
-            assert (mode, kind) == (b"100644", b"blob"), entry
-            paths.append(path)
-            wanted += name + b"\n"
-        found, at, tree = self.git("cat-file", "--batch", given=wanted).stdout, 0, {}
-        for path in paths:
-            end = found.index(b"\n", at)
-            size = int(found[at:end].split()[2])
-            tree[path] = found[end + 1 : end + 1 + size]
-            at = end + size + 2
-        return tree
+        with tarfile.open(fileobj=io.BytesIO(self.git("archive", "--format=tar", f"{commit.decode()}^{{tree}}").stdout)) as archive:
+            files = [it for it in archive if not it.isdir()]
+            assert all(it.isreg() and it.mode == PLAIN for it in files), commit
+            return {os.fsencode(it.name): archive.extractfile(it).read() for it in files}
+
+
+def lines_of(response):
+    """The lines of a response after its first one."""
+    return response.split(b"\n")[1:-1]
 
 
 def tree_of(lines):
     """The files of a response to `tree`: each path with its content."""
-    files, at = {}, 0
-    while at < len(lines):
-        _, path, count = lines[at].split()
-        files[path] = b"".join(line[1:] + b"\n" for line in lines[at + 1 : at + 1 + int(count)])
-        at += 1 + int(count)
+    files = {}
+    while lines:
+        _, path, count = lines[0].split()
+        content, lines = lines[1 : 1 + int(count)], lines[1 + int(count) :]
+        files[path] = b"".join(line[1:] + b"\n" for line in content)
     return files
 
 
@@ -105,22 +96,19 @@ class Export:
 
     def ask(self, commands):
         """The responses of a conversation over the script's repository."""
-        done = programs.run([self.program, "--load", self.kept], b"".join(it + b"\n" for it in commands))
-        found = responses(done.stdout)
-        assert (done.returncode, len(found)) == (0, len(commands)), (self.name, done.stderr, len(found))
+        found = list(respond([self.program, "--load", self.kept], commands))
+        assert len(found) == len(commands), (self.name, found)
         return found
 
     def try_script(self, script):
         """The script may have faults and refusals: what is kept of a conversation is loaded then."""
         with tempfile.TemporaryDirectory(prefix="git-") as folder:
-            done = programs.run([self.program], script + b"\nend\ndone\nbranches\nkeep\n")
-            branches, kept = last_two(done.stdout)
+            _, branches, kept = respond([self.program], [script, b"branches", b"keep"])
             self.kept = f"{folder}/kept"
-            write(self.kept, b"".join(line + b"\n" for line in kept))
-            repository = Repository(f"{folder}/repository")
-            names = [lines for _, lines in self.ask([b"names " + it for it in branches])]
-            for branch, patches in zip(branches, names):
-                fault = self.fault_of(repository, branch, patches)
+            write(self.kept, kept.partition(b"\n")[2])
+            repository, branches = Repository(f"{folder}/repository"), lines_of(branches)
+            for branch, patches in zip(branches, self.ask([b"names " + it for it in branches])):
+                fault = self.fault_of(repository, branch, lines_of(patches))
                 if fault:
                     self.report.fail(f"{self.name}: {branch.decode()}: {fault}")
             self.check(repository)
@@ -142,8 +130,8 @@ class Export:
                 commands += [b"obliterate %s %s" % (copy, b" ".join(after))] if after else []
                 commands.append(b"tree " + copy)
             found = self.ask(commands)
-            assert {words[0] for words, _ in found} <= {b"ok", b"tree"}, found
-            trees += [tree_of(lines) for words, lines in found if words[0] == b"tree"]
+            assert all(it.startswith((b"ok ", b"tree ")) for it in found), found
+            trees += [tree_of(lines_of(it)) for it in found if it.startswith(b"tree ")]
         return trees
 
     def fault_of(self, repository, branch, names):
@@ -176,14 +164,3 @@ class Export:
             before = commit[0]
         self.report.count("commits", len(commits))
         return None
-
-
-def last_two(text):
-    """The lines of the last two responses of a conversation, to `branches` and `keep`."""
-    lines = text.split(b"\n")[:-1]
-    found = []
-    for word in (b"keep", b"branches"):
-        at = next(at for at in range(len(lines)) if lines[at] == b"%s %d" % (word, len(lines) - at - 1))
-        found.insert(0, lines[at + 1 :])
-        del lines[at:]
-    return found

@@ -16,30 +16,22 @@ SECONDS, GATE = 1, "after camp"
 
 
 def run(report, words):
-    if words[:1] == ["--show"]:
-        sys.stdout.buffer.write(script_of(int(words[1])))
+    program, (option, *rest) = programs.path("camp"), words or [None]
+    if option == "--show":
+        sys.stdout.buffer.write(script_of(int(rest[0])))
         return report.count("scripts")
-    if words[:1] == ["--table"]:
-        return print_table(report, words[1], range(int(words[2]), int(words[3]) + 1))
-    program = programs.path("camp")
-    if words[:1] == ["--against"]:
-        return compare(report, program, words[1], range(int(words[2]), int(words[3]) + 1))
     table = {int(seed): wanted for seed, wanted in (line.split() for (line,) in golden.rows("random_scripts"))}
-    for seed, found in programs.each(lambda seed: digest(program, seed), table):
-        report.expect(f"the script of seed {seed}", found, table[seed])
-        report.count("scripts")
-
-
-def compare(report, program, other, seeds):
-    for seed, pair in programs.each(lambda seed: (answer(program, seed), answer(other, seed)), seeds):
-        report.expect(f"the script of seed {seed}", *pair)
-        report.count("scripts")
-
-
-def print_table(report, other, seeds):
-    for seed, found in programs.each(lambda seed: digest(other, seed), seeds):
-        print(seed, found)
-        report.count("scripts")
+    seeds = range(int(rest[1]), int(rest[2]) + 1) if option else table
+    if option == "--table":
+        for it in programs.each(lambda seed: digest(rest[0], seed), seeds):
+            print(*it)
+    elif option == "--against":
+        for seed, pair in programs.each(lambda seed: (answer(program, seed), answer(rest[0], seed)), seeds):
+            report.expect(f"the script of seed {seed}", *pair)
+    else:
+        for seed, found in programs.each(lambda seed: digest(program, seed), seeds):
+            report.expect(f"the script of seed {seed}", found, table[seed])
+    report.count("scripts", len(seeds))
 
 
 def answer(program, seed):

@@ -4,8 +4,11 @@ Scripts of one section: examples, tests/data/answers and a hundred random ones. 
 branches of their own, or on one branch, where every second name is one that each of them takes.
 """
 
+import glob
+
 from tests.harness import programs
-from tests.harness.scripts import example_scripts, script_of, table_scripts
+from tests.harness.paths import EXAMPLES, read
+from tests.harness.scripts import crowd, script_of, table_scripts
 
 SECONDS, GATE = 4, "after worked"
 # Clients, records of each, and whether all write one branch.
@@ -14,7 +17,7 @@ CROWDS = ((8, 50, False), (63, 1, False), (2, 1000, True), (4, 1000, True), (63,
 
 def run(report, words):
     program = programs.path("worked")
-    known = [*example_scripts().values(), *table_scripts("answers"), *map(script_of, range(1, 101))]
+    known = [*map(read, sorted(glob.glob(f"{EXAMPLES}/*.camp"))), *table_scripts("answers"), *map(script_of, range(1, 101))]
     # A run of a table ends at an empty line, which a script may leave out.
     known = [b"".join(line + b"\n" for line in it.split(b"\n") if line) for it in known]
     scripts = [it for it in known if it and not any(line.split()[:1] == [b"client"] for line in it.split(b"\n"))]
@@ -40,16 +43,6 @@ def compare(report, way, scripts, found, wanted):
     for script, *pair in zip(scripts, found, wanted):
         report.expect(f"{way.decode()}: {script[:60]!r}", *pair)
         report.count("runs")
-
-
-def crowd(clients, records, is_race):
-    """A script of clients with so many records of added files each."""
-    lines = [] if is_race else [f"branch c{client} main" for client in range(1, clients + 1)]
-    for client in range(1, clients + 1):
-        branch = "main" if is_race else f"c{client}"
-        owners = [0 if is_race and at % 2 == 0 else client for at in range(1, records + 1)]
-        lines += ["client", *(f"record {branch} p{owner}-{at} add f{owner}-{at}" for at, owner in enumerate(owners, 1))]
-    return "".join(f"{line}\n" for line in lines).encode()
 
 
 def histories(report, way, program, crowds, found):

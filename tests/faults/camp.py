@@ -6,7 +6,7 @@ Words: ends, memory name parts; spaces: some 600 address spaces of each script, 
 import resource
 
 from tests.harness import programs, sessions
-from tests.harness.camp import Camp
+from tests.harness.camp import Program
 from tests.harness.paths import EXAMPLES, read
 
 SECONDS, GATE = 8, "after camp"
@@ -19,16 +19,11 @@ BELOW, ABOVE, APART, LAST = 200, 20, 256, 100_000
 
 
 def run(report, words):
-    camp, parts = Camp(report), {"ends": ends, "memory": memory, "spaces": spaces}
+    camp = Program(report, "camp")
+    parts = {"ends": lambda camp: sessions.play_all(camp, "ends", "failing ends"), "memory": memory, "spaces": spaces}
     for name in words or ("ends", "memory"):
-        if name == "ends" or programs.is_plain(camp.program):
+        if name == "ends" or camp.has_spaces():
             parts[name](camp)
-        else:
-            report.skip("address spaces: the program was built without proofs, and its checks want terabytes of them")
-
-
-def ends(camp):
-    sessions.play_all(camp.report, camp.program, "ends", "failing ends")
 
 
 def memory(camp):
@@ -44,7 +39,7 @@ def memory(camp):
 
 def too_small(camp, what, script, size, answers):
     words = programs.limited([camp.program], v=size)
-    camp.expect(f"an address space too small for {what}", programs.run(words, script), b"", b"out of memory", 3)
+    camp.expect(f"an address space too small for {what}", programs.run(words, script), b"", "out of memory", 3)
     camp.expect(f"room for {what}", camp.run(script), answers)
 
 

@@ -39,7 +39,7 @@ class Disk:
         self.path, self.synced, self.turn = path, content, turn
         self.pending, self.asked, self.answers = [], 0, []
 
-    def at_call(self, number, call):
+    def at_call(self, call):
         if call.name == "write" and call.file == "out":
             self.answers += [(it, self.synced, self.asked) for it in call.data.splitlines()]
         if call.name not in ("write", "pwrite", "fsync", "fdatasync") or call.file != self.path:

@@ -21,6 +21,8 @@ MORE = [b"record main Bad add f\n", b"record main g1 group\nadd g\nedit g 1\n+on
 ENDS = (3, b"camp_shell: out of memory\n")
 # So many conversations in a row that are refused nothing say that all allocations were refused.
 NOTHING = 16
+# What stands for a command where none was refused.
+BESIDE = -1
 
 
 def run(report, words):
@@ -34,7 +36,7 @@ def run(report, words):
         report.fail(f"no memory was refused of {missing}")
     report.count("commands", len(talk.commands))
     for way in ("memory", "ends"):
-        report.count(f"commands with an answer `{way}`", sum(way in it for it in talk.refused.values()))
+        report.count(f"commands with an answer `{way}`", sum(way in it for at, it in talk.refused.items() if at != BESIDE))
 
 
 class Peer:
@@ -47,30 +49,24 @@ class Peer:
         with contextlib.suppress(BrokenPipeError):
             programs.send(self.run, text)
 
-    def line(self):
-        return re.sub(rb"^fault \d+ ", b"fault ", self.run.stdout.readline())
+    def mark(self):
+        """Asks a question that no other one is answered like; returns its answer."""
+        self.marks += 1
+        self.send(b"names mark%d\n" % self.marks)
+        return b"refused 4 mark%d\n" % self.marks
 
-    def until_mark(self):
-        """The lines up to the answer to a question that this one sends, again where it is refused memory; None is the end."""
-        lines, mark = [], None
+    def ask(self, command):
+        """The lines that answer a command: those up to the answer to a question behind it. `memory` may answer that question, too, so another
+        one is asked then. None is the end."""
+        self.send(command)
+        lines, mark = [], self.mark()
         while True:
-            if mark is None or (lines and lines[-1] == b"memory\n" and mark not in lines):
-                self.marks += 1
-                mark = b"refused 4 mark%d\n" % self.marks
-                self.send(b"names mark%d\n" % self.marks)
-            line = self.line()
+            line = re.sub(rb"^fault \d+ ", b"fault ", self.run.stdout.readline())
             if line in (mark, b""):
                 return lines + ([] if line else [None])
-            lines.append(line)
-
-    def answer(self, count):
-        """An answer of so many lines, or the one line `memory`, or what there was before the end."""
-        lines = []
-        while len(lines) < count and lines != [b"memory\n"]:
-            lines.append(self.line() or None)
-            if lines[-1] is None:
-                break
-        return lines
+            mark = self.mark() if line == b"memory\n" else mark
+            if not line.startswith(b"refused 4 mark"):
+                lines.append(line)
 
     def end(self):
         with contextlib.suppress(BrokenPipeError):
@@ -85,10 +81,8 @@ class Conversation:
     def __init__(self, report, program):
         self.report, self.program, self.refused = report, program, {}
         self.commands = commands_of(read(f"{EXAMPLES}/questions.talk")) + MORE
-        peer, self.answers = Peer(program, 0), []
-        for command in self.commands:
-            peer.send(command)
-            self.answers.append(peer.until_mark())
+        peer = Peer(program, 0)
+        self.answers = [peer.ask(it) for it in self.commands]
         report.expect("ample memory", (peer.marks, peer.end()), (len(self.commands), (0, b"")))
 
     def refuse_each(self, apart):
@@ -102,36 +96,21 @@ class Conversation:
                 self.report.count("refused allocations")
 
     def hold(self, number):
-        """Holds the conversation. Which command was refused memory, and how; None if none was."""
-        peer, what, refused = Peer(self.program, number), f"allocation {number}", None
-        for at, command in enumerate(self.commands):
-            peer.send(command)
-            way, is_over = self.compare(peer, what, at, refused is None)
-            refused = (at, way) if way else refused
-            if is_over:
+        """Holds the conversation. Which command was refused memory (BESIDE: none of them, but a question behind one, or the end of the
+        input), and how; None if nothing was."""
+        peer, refused = Peer(self.program, number), None
+        for at, (command, wanted) in enumerate(zip(self.commands, self.answers)):
+            found = peer.ask(command)
+            if refused is None and found[-1:] in ([b"memory\n"], [None]):
+                refused = BESIDE if found[:-1] else at, "memory" if found[-1] else "ends"
+                if refused == (at, "ends"):
+                    break
+                # What has no answer can be answered `memory` alone, as the question behind it.
+                found = peer.ask(command) if refused == (at, "memory") and wanted else found[:-1]
+            if not self.report.expect(f"allocation {number}, {command!r}", found, wanted) or refused == (BESIDE, "ends"):
                 break
         end = peer.end()
         if refused is None and end == ENDS:
-            # After the last answer, where the end of the input is read.
-            refused = len(self.commands), "ends"
-        if end != (ENDS if refused and refused[1] == "ends" else (0, b"")):
-            self.report.fail(f"{what}: {end}, {refused}")
+            refused = BESIDE, "ends"
+        self.report.expect(f"allocation {number}, {refused}: the end", end, ENDS if refused and refused[1] == "ends" else (0, b""))
         return refused
-
-    def compare(self, peer, what, at, is_first):
-        """Reads the answer to a command: how memory was refused, if it was, and whether the conversation is over."""
-        command, wanted = self.commands[at], self.answers[at]
-        if not wanted:
-            # What has no answer can be answered `memory` alone; so can the mark.
-            found = [it for it in peer.until_mark() if not (it or b"").startswith(b"refused 4 mark")]
-            if found not in ([], [None], [b"memory\n"]):
-                self.report.fail(f"{what}, {command!r}: {found}")
-            return ("ends" if found == [None] else "memory") if found else None, found == [None]
-        found, way = peer.answer(len(wanted)), None
-        if found == [b"memory\n"] and is_first:
-            way = "memory"
-            peer.send(command)
-            found = peer.answer(len(wanted))
-        if found == [None] and is_first and not way:
-            return "ends", True
-        return way, not self.report.expect(f"{what}, {command!r}", found, wanted)

@@ -13,6 +13,7 @@ from tests.harness.paths import read, write
 from tests.harness.store import NO_STORE, TITLE, Store, calls, encode, oks
 
 SECONDS, GATE = 25, "after camp_shell"
+LONGEST = b"camp store 1 catches 16777216 branches 65536\n"
 
 
 def run(report, words):
@@ -59,13 +60,15 @@ def commit_marks(store, head, tail):
 
 
 def torn_beginnings(store):
-    """While a store is made: it is begun anew."""
-    path, first = store.path("made"), b"~" + encode([TITLE])[1:]
-    for end in range(len(first) + 1):
-        write(path, first[:end])
-        store.expect(f"made up to {end}", store.run(path, calls(1)[0]).stdout, b"ok 1\n")
-        store.expect(f"made up to {end}", read(path), encode([TITLE, *calls(1)]))
-        store.count("torn beginnings")
+    """While a store is made, also one with the longest title: it is begun anew."""
+    path = store.path("made")
+    for title, words in ((TITLE, ()), (LONGEST, ("--limits", "catches=16777216,branches=65536"))):
+        first = b"~" + encode([title])[1:]
+        for end in range(len(first) + 1):
+            write(path, first[:end])
+            store.expect(f"{title} made up to {end}", store.run(path, calls(1)[0], words).stdout, b"ok 1\n")
+            store.expect(f"{title} made up to {end}", read(path), encode([title, *calls(1)]))
+            store.count("torn beginnings")
 
 
 def cut_files(store, texts, content):

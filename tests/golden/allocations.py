@@ -17,18 +17,9 @@ REFUSED = 4_000
 GROWS = re.compile(r"^grows (\d+) (\d+) \| (.*)\n", re.M)
 
 
-class Row:
-    """Two lines, each after those that stand before both, for a value of a size; and how much more the second one allocates."""
-
-    def __init__(self, before, size, without, operation, count):
-        self.title, self.count = f"{operation} of {size}", count
-        texts = [filled("\n".join([*before, it, ""]), size) for it in (without, operation)]
-        # A comment makes both equally long, so that they are read into as much memory.
-        length = max(map(len, texts))
-        self.tables = [b"table x\n#" + b"." * (length - len(it)) + b"\n" + it for it in texts]
-
-
 def rows_of(text):
+    """The rows: the title of each, how much more the second of two tables allocates, and these tables. Each is one line after those that
+    stand before both, for a value of a size."""
     before, sizes = [], []
     for line in text.splitlines():
         if line.startswith("sizes "):
@@ -36,10 +27,13 @@ def rows_of(text):
         elif line.startswith("< "):
             before.append(line[2:])
         elif line and not line.startswith("#"):
-            counts, without, operation = line.split(" | ")
+            counts, *pair = line.split(" | ")
             assert len(counts.split()) == len(sizes), line
-            for size, count in zip(sizes, counts.split()):
-                yield Row(before, int(size), without, operation, int(count))
+            for size, count in zip(map(int, sizes), counts.split()):
+                texts = [filled("\n".join([*before, it, ""]), size) for it in pair]
+                # A comment makes both equally long, so that they are read into as much memory.
+                length = max(map(len, texts))
+                yield f"{pair[1]} of {size}", int(count), [b"table x\n#" + b"." * (length - len(it)) + b"\n" + it for it in texts]
 
 
 def filled(text, size):
@@ -72,18 +66,11 @@ def run_of(program, table):
     return answer, -int(left.split()[1])
 
 
-def count_of(program, row):
+def count_of(program, tables):
     """How much more the second line allocates, where it does something; else its answer."""
-    (before, without), (answer, count) = (run_of(program, it) for it in row.tables)
+    (before, without), (answer, count) = (run_of(program, it) for it in tables)
     is_done = before and answer and answer.startswith(("= made", "ok ", "refused 4", "accepted "))
     return count - without if is_done else answer
-
-
-def seconds_of(program, table):
-    """The seconds of a processor that the program takes for a table."""
-    before = programs.used_seconds()
-    programs.run([program], table)
-    return programs.used_seconds() - before
 
 
 def run(report, words):
@@ -91,11 +78,11 @@ def run(report, words):
     program = programs.path("worked")
     if not can_refuse(report, program):
         return
-    for row, count in programs.each(lambda it: count_of(program, it), rows_of(GROWS.sub("", text))):
-        report.expect(row.title, count, row.count)
+    for (title, wanted, _), count in programs.each(lambda it: count_of(program, it[2]), rows_of(GROWS.sub("", text))):
+        report.expect(title, count, wanted)
         report.count("operations")
     for small, large, lines in GROWS.findall(text):
         table = "table x\nquiet\n" + lines.replace("; ", "\n") + "\n"
-        is_well = programs.is_in_proportion(lambda size: seconds_of(program, filled(table, size)), int(small), int(large))
+        is_well = programs.is_in_proportion(lambda size: programs.run([program], filled(table, size)), int(small), int(large))
         report.expect(f"{lines}: the time at {large} is in proportion to that at {small}", is_well, True)
         report.count("times")

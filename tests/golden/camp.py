@@ -9,14 +9,15 @@ import os
 import re
 
 from tests.harness import golden
-from tests.harness.camp import Camp
+from tests.harness.camp import WAYS, Program
 from tests.harness.paths import DATA, EXAMPLES, TOP, read
+from tests.harness.scripts import crowd
 
 SECONDS, GATE = 16, "after camp"
 
 
 def run(report, words):
-    camp = Camp(report)
+    camp = Program(report, "camp")
     parts = {"examples": examples, "tables": tables, "clients": clients, "limits": limits}
     for word in words or parts:
         name, _, some = word.partition("/")
@@ -30,18 +31,17 @@ def examples(camp):
         script, flags = read(path), golden.beside(path, ".flags").decode().splitlines()
         status = int(golden.beside(path, ".status", b"0"))
         for words in map(str.split, flags or ["", "--serial"]):
-            done = camp.run(script, words)
             what = " ".join([os.path.basename(path), *words])
-            camp.report.expect_run(what, done, golden.beside(path, ".stdout"), golden.beside(path, ".stderr"), status)
+            camp.report.expect_run(what, camp.run(script, words), golden.beside(path, ".stdout"), golden.beside(path, ".stderr"), status)
             camp.report.count("runs")
 
 
 def tables(camp):
     for line, fault, script in golden.rows("faults"):
-        camp.faults(f"fault: {script}", golden.unescape(script), f"line {line}: {fault}".encode())
+        camp.answers(f"fault: {script}", golden.unescape(script), fault=f"line {line}: {fault}")
     prefixes(camp)
     for title, flags, script, answers in golden.cases("answers"):
-        camp.answers(title, script, answers, flags or ([], ["--serial"]))
+        camp.answers(title, script, answers, ways=flags or WAYS)
     command_lines(camp)
     help_text(camp)
 
@@ -50,9 +50,9 @@ def limits(camp, part=""):
     """Scripts at a limit, and one beyond it."""
     for title, flags, script, wanted in golden.cases("limits"):
         if title.startswith(part) and wanted.startswith(b"!"):
-            camp.faults(title, script, wanted[1:-1], [[]])
+            camp.answers(title, script, fault=wanted[1:-1].decode(), ways=[[]])
         elif title.startswith(part):
-            camp.answers(title, script, wanted, *([flags] if flags else []))
+            camp.answers(title, script, wanted, ways=flags or WAYS)
 
 
 def prefixes(camp):
@@ -63,7 +63,7 @@ def prefixes(camp):
             if wanted.startswith("="):
                 camp.answers(f"prefix of {size} bytes", script[:size], golden.unescape(wanted[1:]))
             else:
-                camp.faults(f"prefix of {size} bytes", script[:size], wanted.encode())
+                camp.answers(f"prefix of {size} bytes", script[:size], fault=wanted)
 
 
 def command_lines(camp):
@@ -76,7 +76,7 @@ def command_lines(camp):
     script, answers = read(f"{EXAMPLES}/first.camp"), read(f"{EXAMPLES}/first.camp.stdout")
     history = b"history 2\n1 0 record main a add f\n2 0 record main b edit f 1 0 1\n"
     for (flags,) in golden.rows("accepted_options"):
-        camp.answers("options:", script, answers + history * ("--history" in flags), [flags.split()])
+        camp.answers("options:", script, answers + history * ("--history" in flags), ways=[flags.split()])
 
 
 def help_text(camp):
@@ -86,7 +86,7 @@ def help_text(camp):
     texts = {"--help": text, "--serial --help": text, "--help extra": text, "-h": short, "--serial -h": short, "--version": version,
              "-V": version, "--serial --version": version, "-V extra": version}
     for flags, wanted in texts.items():
-        camp.answers("options:", script, wanted, [flags.split()])
+        camp.answers("options:", script, wanted, ways=[flags.split()])
     example = re.search(rb"^The script\n(.*)^is answered by\n(.*?)^Commands, ", text, re.M | re.S)
     answers = b"".join(it for it in example[2].splitlines(keepends=True) if it.strip())
     camp.answers("the example of the help text", example[1], answers)
@@ -95,7 +95,8 @@ def help_text(camp):
 def clients(camp):
     """Clients in threads, whose order is free: what all orders have in common is compared."""
     two_branches(camp)
-    script, calls = eight_clients()
+    script = crowd(8, 50, False)
+    calls = [it for it in script.decode().splitlines() if it != "client"]
     for flags in (["--history", "--tries", "1000"], ["--history", "--serial"]):
         every_call_once(camp, script, calls, flags)
     lost_calls(camp, script)
@@ -107,14 +108,6 @@ def two_branches(camp):
     done = camp.run(script)
     first, second = (4, 3) if done.stdout.split(b"\n")[3:4] == [b"ok 4"] else (3, 4)
     camp.expect("two branches", done, b"ok 1\nok 2\nclient 1\nok %d\nclient 2\nok %d\n" % (first, second))
-
-
-def eight_clients():
-    """Eight clients record 50 files each on branches of their own: the script, and its 408 calls."""
-    lines = [f"branch c{k} main" for k in range(1, 9)]
-    for k in range(1, 9):
-        lines += ["client", *(f"record c{k} n{k}-{i} add f{k}/{i}" for i in range(1, 51))]
-    return "".join(f"{it}\n" for it in lines).encode(), [it for it in lines if it != "client"]
 
 
 def every_call_once(camp, script, calls, flags):

@@ -20,7 +20,6 @@ import re
 import shutil
 import signal
 import sys
-import time
 import tokenize
 import urllib.parse
 from concurrent.futures import ThreadPoolExecutor
@@ -43,19 +42,22 @@ PACKAGES = (f"{TOP}/clients/python", f"{TOP}/apps/campvc")
 
 
 def run(report, words):
-    library = built_library(report, makes=True)
-    if not library:
-        return
-    if not python_with(""):
-        report.skip("Python 3.11")
-        return
-    os.environ["CAMP_LIB_DIR"] = library
-    # Beside proofs a log may get little of a processor.
-    os.environ["CAMP_PATIENCE"] = "120"
-    sys.path[:0] = PACKAGES
-    for name in words or PARTS:
+    for name in (words or PARTS) if is_ready(report) else ():
         with temporary("campvc-") as folder:
             globals()[name](report, folder)
+
+
+def is_ready(report):
+    """Whether this machine has the library and a Python for campvc, which all that is started from now on finds."""
+    library = built_library(report, makes=True)
+    if library and not python_with(""):
+        report.skip("Python 3.11")
+    if not library or not python_with(""):
+        return False
+    # Beside proofs a log may get little of a processor.
+    os.environ.update(CAMP_LIB_DIR=library, CAMP_PATIENCE="120")
+    sys.path[:0] = PACKAGES
+    return True
 
 
 @functools.lru_cache(None)

@@ -9,13 +9,11 @@ import random
 import shutil
 import signal
 import sqlite3
-import sys
 import tempfile
 import time
 
-from tests.golden.campvc import PACKAGES, call, environment, play_all, prepare, python_with
+from tests.golden.campvc import call, environment, is_ready, play_all, prepare
 from tests.harness import programs
-from tests.harness.clients import built_library
 
 SECONDS, GATE = 60, "after camp_c"
 PARTS = ("damage", "copies", "server")
@@ -27,15 +25,7 @@ QUESTIONS = ["names main", "names {own}", "conflicts main", "open {own}", "branc
 
 
 def run(report, words):
-    library = built_library(report, makes=True)
-    if not library:
-        return
-    if not python_with(""):
-        report.skip("Python 3.11")
-        return
-    os.environ["CAMP_LIB_DIR"] = library
-    sys.path[:0] = PACKAGES
-    for name in words or PARTS:
+    for name in (words or PARTS) if is_ready(report) else ():
         with tempfile.TemporaryDirectory(prefix="campvc-") as folder:
             prepare(folder)
             globals()[name](report, folder)

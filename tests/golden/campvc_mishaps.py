@@ -13,9 +13,8 @@ import signal
 import sys
 import time
 
-from tests.golden.campvc import PACKAGES, call, environment, prepare, python_with
+from tests.golden.campvc import call, environment, is_ready, prepare
 from tests.harness import programs
-from tests.harness.clients import built_library
 from tests.harness.folders import temporary
 
 SECONDS, GATE = 80, "after camp_c"
@@ -25,17 +24,7 @@ SETUP = "campvc init --log $LOG; seq 200 >f; for i in $(seq 60); do echo $i >g$i
 
 
 def run(report, words):
-    library = built_library(report, makes=True)
-    if not library:
-        return
-    if not python_with(""):
-        report.skip("Python 3.11")
-        return
-    os.environ["CAMP_LIB_DIR"] = library
-    # Beside proofs a log may get little of a processor.
-    os.environ["CAMP_PATIENCE"] = "120"
-    sys.path[:0] = PACKAGES
-    for name in words or PARTS:
+    for name in (words or PARTS) if is_ready(report) else ():
         with temporary("campvc-") as folder:
             prepare(folder)
             how = {"LOG": f"sqlite:{folder}/log.db"}

@@ -16,6 +16,8 @@ from camp.shared import Shared
 with Shared(open_log("sqlite:" + sys.argv[1])) as shared:
     print(shared.sync(), ",".join(shared.branches()), ",".join(shared.names("main")), shared.record("main", "more", [Add("more")]))
 """
+# Programs of C.
+EMPTY, USES_SQLITE = "int main(void) { return 0; }\n", "#include <sqlite3.h>\nint main(void) { return !sqlite3_libversion(); }\n"
 PARTS = ("c", "memory", "sanitized", "rust", "python")
 
 
@@ -50,7 +52,7 @@ def memory(clients):
 
 def sanitized(clients):
     """AddressSanitizer watches each block that the library takes, and finds those that are left."""
-    if clients.has("cc") and clients.has_sanitizer():
+    if clients.has("cc") and clients.compiles("AddressSanitizer", EMPTY, "-fsanitize=address"):
         c_programs(clients, ["-g", "-fsanitize=address,undefined"])
 
 
@@ -58,7 +60,7 @@ def rust(clients):
     if not clients.has("cargo"):
         return
     manifest = ["--offline", "--quiet", "--manifest-path", "clients/rust/Cargo.toml"]
-    features = ["--features", "sqlite"] if clients.has_sqlite() else []
+    features = ["--features", "sqlite"] if clients.compiles("SQLite's C library (libsqlite3-dev)", USES_SQLITE, "-lsqlite3") else []
     clients.runs("cargo test", ["cargo", "test", *features, *manifest])
     clients.runs("cargo build", ["cargo", "build", "--examples", *features, *manifest])
     for it in ("start", "conflict"):

@@ -3,6 +3,8 @@
 import sys
 
 from tests.harness import golden, programs
+from tests.harness.camp import Program
+from tests.harness.conversation import frame
 from tests.harness.paths import EXAMPLES, read
 
 SECONDS, GATE = 6, "after camp_shell"
@@ -13,40 +15,31 @@ REQUESTS = [tuple(map(golden.unescape, it)) for it in golden.rows("frames")]
 
 
 def run(report, words):
-    program = programs.path("camp_shell")
-    ask = lambda given: programs.run([program, "--frames"], given)
+    shell = Program(report, "camp_shell")
+    ask = lambda given: shell.run(given, ["--frames"])
     given, answers = (b"".join(map(frame, it)) for it in zip(*REQUESTS))
-    report.expect_run("all requests", ask(given), answers)
-    report.expect_run("no request", ask(b""), b"")
+    shell.expect("all requests", ask(given), answers)
+    shell.expect("no request", ask(b""))
     report.count("requests", len(REQUESTS))
-    garbage(report, ask)
-    prefixes(report, ask)
-    many = programs.many(program, 200_000)
-    report.expect_run(f"{many} requests at once", ask(frame(b"names main") * many), frame(b"names 0\n") * many)
-    waiting_peer(report, program, programs.many(program, 10_000))
-    done = programs.run([sys.executable, CLIENT, program])
-    report.expect_run("the client in Python", done, read(f"{CLIENT}.stdout"))
+    garbage(shell, ask)
+    prefixes(shell, ask)
+    many = programs.many(shell.program, 200_000)
+    shell.expect(f"{many} requests at once", ask(frame(b"names main") * many), frame(b"names 0\n") * many)
+    waiting_peer(report, shell.program, programs.many(shell.program, 10_000))
+    shell.expect("the client in Python", programs.run([sys.executable, CLIENT, shell.program]), read(f"{CLIENT}.stdout"))
 
 
-def frame(text):
-    return b"%d\n%b" % (len(text), text)
-
-
-def said(error):
-    return f"camp_shell: {error}\n".encode()
-
-
-def garbage(report, ask):
+def garbage(shell, ask):
     """Garbage first, and after requests: their answers are written."""
     given, answers = (b"".join(map(frame, it)) for it in zip(*REQUESTS[:5]))
     for text, error in golden.rows("wrong_frames"):
         text = golden.unescape(text)
-        report.expect_run(f"{text[:20]!r}", ask(text), b"", said(error), 1)
-        report.expect_run(f"{text[:20]!r} after requests", ask(given + text), answers, said(error), 1)
-        report.count("wrong inputs", 2)
+        shell.expect(f"{text[:20]!r}", ask(text), b"", error, 1)
+        shell.expect(f"{text[:20]!r} after requests", ask(given + text), answers, error, 1)
+        shell.report.count("wrong inputs", 2)
 
 
-def prefixes(report, ask):
+def prefixes(shell, ask):
     """Each prefix of some requests: those that are whole are answered, and one that is cut ends the program."""
     given, answers, whole = b"", b"", {0: b""}
     for request, answer in REQUESTS[:9]:
@@ -55,8 +48,8 @@ def prefixes(report, ask):
     last = b""
     for size in range(len(given) + 1):
         last, is_whole = whole.get(size, last), size in whole
-        report.expect_run(f"the prefix of {size} bytes", ask(given[:size]), last, b"" if is_whole else said(CUT), 0 if is_whole else 1)
-        report.count("prefixes")
+        shell.expect(f"the prefix of {size} bytes", ask(given[:size]), last, None if is_whole else CUT, 0 if is_whole else 1)
+        shell.report.count("prefixes")
 
 
 def waiting_peer(report, program, count):

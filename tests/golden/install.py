@@ -14,7 +14,7 @@ import tempfile
 import zipfile
 
 from tests.harness import programs
-from tests.harness.clients import stand_in_library, built_library
+from tests.harness.clients import WARNINGS, built_library
 from tests.harness.paths import TOP, read, read_text
 
 SECONDS, GATE = 30, "after"
@@ -74,6 +74,15 @@ def gather(report, built):
         for it in ("libcamp.a", "libcamp.so"):
             open(f"{built}/lib/{it}", "wb").close()
     return bool(found)
+
+
+def stand_in_library(folder, version=version()):
+    """Compiles clients/c/tests/stand_in.c as both libraries, which say that they are of this version, or of another one."""
+    flags = [*WARNINGS, "-fPIC", "-I", f"{TOP}/clients/c/include", f'-DCAMP_STAND_IN="{version}"']
+    subprocess.run(["cc", *flags, "-c", f"{TOP}/clients/c/tests/stand_in.c", "-o", f"{folder}/stand_in.o"], check=True)
+    subprocess.run(["ar", "rcs", f"{folder}/libcamp.a", f"{folder}/stand_in.o"], check=True)
+    subprocess.run(["cc", "-shared", "-Wl,-soname,libcamp.so.0", f"{folder}/stand_in.o", "-o", f"{folder}/libcamp.so"], check=True)
+    os.remove(f"{folder}/stand_in.o")
 
 
 def tries(report, prefix, is_real):

@@ -1,6 +1,6 @@
 """camp_shell's conversations are answered byte by byte: examples, short ones, loaded files, and lines at their limits.
 
-Words: examples, conversations, loads, lines, options, terminals name parts; none: all, and also a peer that waits for each answer, and many questions.
+Words: examples, conversations, loads, lines, peers, options, terminals name parts; none: all.
 """
 
 import os
@@ -8,32 +8,17 @@ import re
 import tempfile
 
 from tests.harness import golden, programs, sessions
+from tests.harness.camp import Program
 from tests.harness.conversation import ask
-from tests.harness.paths import DATA, EXAMPLES, TOP, read, write
+from tests.harness.paths import DATA, EXAMPLES, TOP, read
 from tests.harness.store import oks
 from tests.harness.terminal import Terminal
 
 SECONDS, GATE = 10, "after camp_shell"
 
 
-class Shell:
-    """The program, and the report of this test."""
-
-    def __init__(self, report):
-        self.report, self.program = report, programs.path("camp_shell")
-
-    def answer(self, commands):
-        """What a conversation is answered whose commands are sent at once; it has to end well."""
-        done = programs.run([self.program], commands)
-        self.report.expect(f"status and standard error of {commands[:60]!r}", (done.returncode, done.stderr), (0, b""))
-        return done.stdout
-
-    def expect(self, what, commands, wanted):
-        self.report.expect(what, self.answer(commands), wanted)
-
-
 def run(report, words):
-    shell = Shell(report)
+    shell = Program(report, "camp_shell")
     parts = {"examples": examples, "conversations": conversations, "loads": loads, "lines": lines, "peers": peers, "options": options, "terminals": terminals}
     for name in words or parts:
         parts[name](shell)
@@ -43,10 +28,8 @@ def options(shell):
     """The help text, short and long, or the version is all that is written."""
     short, version = read(f"{DATA}/shell_short_help"), b"camp_shell " + read(f"{TOP}/VERSION")
     for flags, wanted in (("-h", short), ("--version", version), ("-V", version), ("--frames -V", version), ("-h extra", short)):
-        done = programs.run([shell.program, *flags.split()], b"branches\n")
-        shell.report.expect_run(f"options: {flags}", done, wanted)
-        shell.report.count("options")
-    long = programs.run([shell.program, "--help"]).stdout
+        shell.expect(f"options: {flags}", shell.run(b"branches\n", flags.split()), wanted)
+    long = shell.run(flags=["--help"]).stdout
     for it in re.findall(rb"^ .*(--[\w-]+)", short, re.M) + [b"Exit status:"]:
         shell.report.expect(f"the long help has {it}", it in long, True)
 
@@ -72,7 +55,7 @@ def examples(shell):
 
 def example(shell, name):
     commands, answers = read(f"{EXAMPLES}/{name}"), read(f"{EXAMPLES}/{name}.stdout")
-    shell.expect(name, commands, answers)
+    shell.expect(name, shell.run(commands), answers)
     peer = programs.start([shell.program])
     for at in range(len(commands)):
         programs.send(peer, commands[at : at + 1])
@@ -96,7 +79,9 @@ def prefixes(shell, commands):
     """Each prefix of a conversation: what whole commands are answered, and then what is left of one."""
     last = b""
     for at in range(len(commands) + 1):
-        found = shell.answer(commands[:at])
+        done = shell.run(commands[:at])
+        found = done.stdout
+        shell.expect(f"the prefix of {at} bytes", done, found)
         if at and commands[at - 1 : at] == b"\n":
             if not (found.startswith(last) or b"not ended" in last):
                 shell.report.fail(f"the prefix of {at} bytes: {found!r} does not continue {last!r}")
@@ -105,73 +90,55 @@ def prefixes(shell, commands):
 
 
 def conversations(shell):
-    """The short conversations of tests/data/conversations, and sides at the limit of a patch."""
+    """The short conversations of tests/data/conversations."""
     for title, _, commands, answers in golden.cases("conversations"):
-        shell.expect(title, commands, answers)
+        shell.expect(title, shell.run(commands), answers)
         shell.report.count("conversations")
-    for count in (64, 65):
-        pasted_side(shell, count)
-
-
-def pasted_side(shell, count):
-    """A side of as many changes as a patch may have is recorded as it is printed, and one of one more is not."""
-    line = lambda at: b"two" if at == 0 else b"two %d" % at
-    changes = [b"edit f 1\n-%s\n+%s\nend\n" % (line(at), line(at + 1)) for at in range(count)]
-    history = b"record main a add f\nrecord main b edit f 1\n+two\nend\nbranch x main\nrecord main q edit f 1\n-two\nend\n"
-    history += b"".join(b"record x p%d %s" % (at + 1, change) for at, change in enumerate(changes)) + b"pull x main\n"
-    found = shell.answer(history + b"side main p%d\n" % count)
-    shell.report.expect(f"a side of {count} changes", found[found.index(b"side") :], b"side %d\n%s" % (4 * count, b"".join(changes)))
-    found = shell.answer(history + b"record main fix group\n" + b"".join(changes) + b"done\nopen main\n")
-    last = found[found.index(b"ok %d\n" % (count + 5)) :].split(b"\n")
-    if count == 64:
-        shell.report.expect("64 changes", last, [b"ok 69", b"ok 70", b"open 0", b""])
-    else:
-        shell.report.expect("65 changes", (last[1].split(b" ", 2)[::2], last[-2]), ([b"fault", b"bad group"], b"p9 q"))
-    shell.report.count("pasted sides")
 
 
 def loads(shell):
     """The cases of tests/data/loads: files, a command line, and what it writes."""
-    sessions.play_all(shell.report, shell.program, "loads", "loads")
-    long_load(shell, programs.many(shell.program, 70_000))
+    sessions.play_all(shell, "loads", "loads")
+    count = programs.many(shell.program, 70_000)
+    long_load(shell, b"record main p add f\nobliterate main p\n" * (count // 2), oks(count), count + 1)
+    long_load(shell, b"names main\n" * count, b"names 0\n" * count, 1)
 
 
-def long_load(shell, count):
-    """A file with more writing commands than a section of a script may have is loaded, and the next command has the next number.
-    A conversation of as many is answered to its end."""
-    text, wanted = b"record main p add f\nobliterate main p\n" * (count // 2), b"ok %d\n" % (count + 1)
-    with tempfile.TemporaryDirectory(prefix="loads-") as folder:
-        write(f"{folder}/calls", text)
-        done = programs.run([shell.program, "--load", f"{folder}/calls"], b"branch last main\n")
-    shell.report.expect_run(f"--load of {count} calls", done, wanted)
-    shell.expect(f"a conversation of {count} calls", text + b"branch last main\n", oks(count) + wanted)
-    shell.report.count("calls that are loaded", count)
+def long_load(shell, commands, answers, number):
+    """More calls, or questions, than a section of a script may have: in a file that is loaded, and in a conversation; a call behind them
+    has this number."""
+    last, wanted = b"branch last main\n", b"ok %d\n" % number
+    with tempfile.NamedTemporaryFile() as file:
+        file.write(commands)
+        file.flush()
+        shell.expect(f"--load of many commands as {commands[:20]!r}", shell.run(last, ["--load", file.name]), wanted)
+    shell.expect(f"a conversation of many commands as {commands[:20]!r}", shell.run(commands + last), answers + wanted)
+    shell.report.count("commands of long conversations", 2 * answers.count(b"\n"))
 
 
 def lines(shell):
     """The conversations of tests/data/long_lines: those of one line with another one after it, and without LF."""
     for title, _, commands, answers in golden.cases("long_lines"):
         is_line = commands.count(b"\n") == 1
-        shell.expect(title, commands + b"names x\n" * is_line, answers + b"refused 4 x\n" * is_line)
+        shell.expect(title, shell.run(commands + b"names x\n" * is_line), answers + b"refused 4 x\n" * is_line)
         if is_line:
-            shell.expect(f"{title}, without LF", commands[:-1], answers)
+            shell.expect(f"{title}, without LF", shell.run(commands[:-1]), answers)
         shell.report.count("long conversations")
     endless_line(shell)
 
 
 def endless_line(shell):
     """A line that does not end, in an address space without room for it."""
-    if not programs.is_plain(shell.program):
-        return shell.report.skip("address spaces: the program was built without proofs, and its checks want terabytes of them")
+    if not shell.has_spaces():
+        return
     words = programs.limited(["sh", "-c", 'head -c 400000000 /dev/zero | "$0"', shell.program], v=65536)
-    shell.report.expect_run("a line of 400 MB", programs.run(words), b"fault 1 unknown command\n")
+    shell.expect("a line of 400 MB", programs.run(words), b"fault 1 unknown command\n")
     shell.report.count("long conversations")
 
 
 def peers(shell):
     blocked_input(shell)
     waiting_peer(shell, programs.many(shell.program, 10_000))
-    many_questions(shell, programs.many(shell.program, 70_000))
 
 
 def blocked_input(shell):
@@ -203,15 +170,3 @@ def waiting_peer(shell, count):
             expect("a refusal", ask(peer, b"names other\n"), b"refused 4 other\n")
     expect("the end", (*peer.communicate(timeout=programs.TIMEOUT), peer.returncode), (b"", b"", 0))
     shell.report.count("commands, each awaited", count)
-
-
-def many_questions(shell, count):
-    """More questions than a script may have calls, in a conversation and in a file that is loaded."""
-    questions = b"names main\n" * count
-    shell.expect("many questions", questions, b"names 0\n" * count)
-    with tempfile.NamedTemporaryFile() as file:
-        file.write(questions)
-        file.flush()
-        done = programs.run([shell.program, "--load", file.name], b"names main\n")
-    shell.report.expect_run("a load of many questions", done, b"names 0\n")
-    shell.report.count("questions", 2 * count)

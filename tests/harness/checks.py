@@ -25,6 +25,9 @@ def words_over(name, tree):
 
 def check_in_place(name):
     """Checks a crate in its folder, as `rt check` does: over what earlier checks kept, libraries below it first. Returns what it prints."""
-    words = ["rt", "check", "--jobs", str(min(2, JOBS))]
-    ran = subprocess.run(words, cwd=f"{TOP}/crates/{name}", stdin=subprocess.DEVNULL, stdout=subprocess.PIPE, stderr=subprocess.STDOUT)
-    return ran.stdout.decode(errors="replace")
+    return printed_by(["rt", "check", "--jobs", str(min(2, JOBS))], f"{TOP}/crates/{name}")
+
+
+def printed_by(words, folder):
+    how = {"stdin": subprocess.DEVNULL, "stdout": subprocess.PIPE, "stderr": subprocess.STDOUT}
+    return subprocess.run(words, cwd=folder, **how).stdout.decode(errors="replace")

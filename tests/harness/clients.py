@@ -37,17 +37,6 @@ def built_library(report, makes=False):
     return folder
 
 
-def stand_in_library(folder, version=None):
-    """Compiles clients/c/tests/stand_in.c as both libraries, which say that they are of this version, or of another one."""
-    source, include = f"{TOP}/clients/c/tests/stand_in.c", f"{TOP}/clients/c/include"
-    version = version or read(f"{TOP}/VERSION").decode().strip()
-    flags = [*WARNINGS, "-fPIC", "-I", include, f'-DCAMP_STAND_IN="{version}"']
-    subprocess.run(["cc", *flags, "-c", source, "-o", f"{folder}/stand_in.o"], check=True)
-    subprocess.run(["ar", "rcs", f"{folder}/libcamp.a", f"{folder}/stand_in.o"], check=True)
-    subprocess.run(["cc", "-shared", "-Wl,-soname,libcamp.so.0", f"{folder}/stand_in.o", "-o", f"{folder}/libcamp.so"], check=True)
-    os.remove(f"{folder}/stand_in.o")
-
-
 class Clients:
     """The folder of the library, a folder for what is built, and the report of a test."""
 
@@ -83,12 +72,6 @@ class Clients:
             self.report.skip(program)
             return False
         return True
-
-    def has_sanitizer(self):
-        return self.compiles("AddressSanitizer", "int main(void) { return 0; }\n", "-fsanitize=address")
-
-    def has_sqlite(self):
-        return self.compiles("SQLite's C library (libsqlite3-dev)", "#include <sqlite3.h>\nint main(void) { return !sqlite3_libversion(); }\n", "-lsqlite3")
 
     def compiles(self, what, text, flag):
         """Whether a program of C is compiled with a flag; else it says that this machine lacks it."""

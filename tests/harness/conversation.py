@@ -25,6 +25,19 @@ def response(next_line):
     return lines
 
 
+def frame(text):
+    return b"%d\n%b" % (len(text), text)
+
+
+def respond(words, requests):
+    """The response of a program to each request, in frames."""
+    rest = programs.run([*words, "--frames"], b"".join(map(frame, requests))).stdout
+    while rest:
+        size, _, rest = rest.partition(b"\n")
+        yield rest[: int(size)]
+        rest = rest[int(size) :]
+
+
 def responses(text):
     """The responses in an output: the words of each first line, and the lines after it."""
     lines, found = iter(text.split(b"\n")[:-1]), []

@@ -20,15 +20,20 @@ def uses_of(tree=TOP):
     return lines_of_crates(read_text(f"{tree}/crates.txt"))
 
 
-def below(name, uses):
-    """The libraries of the repository that a crate uses, and those that they use."""
-    found, left = set(), [it for it in uses[name] if it in uses]
+def reached(name, following):
+    """The name, all that follow it, and those that follow these."""
+    found, left = set(), [name]
     while left:
         it = left.pop()
         if it not in found:
             found.add(it)
-            left += [other for other in uses[it] if other in uses]
+            left += following.get(it, ())
     return found
+
+
+def below(name, uses):
+    """The libraries of the repository that a crate uses, and those that they use."""
+    return reached(name, uses) & set(uses) - {name}
 
 
 def copy_crates(names, folder, more=""):

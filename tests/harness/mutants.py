@@ -47,15 +47,13 @@ def times_in(text, part):
 
 
 class Mutant:
-    """A mutant of a crate: its replacements, and the functions that it changes."""
+    """A mutant of a crate: its replacements, the functions that it changes, and why it can't be applied, if it can't."""
 
     def __init__(self, name, text, crate):
-        self.name, self.crate, self.functions, self.paths = name, crate, set(), {}
-        self.pairs, _ = pairs_of(text)
-        self.can_be_applied = self.applied_to({}) is not None
-        function = name.partition("-")[0]
-        # The functions that a check is asked for.
-        self.asked = {self.paths[function]} if function in self.paths else set(self.paths.values())
+        self.name, self.crate, self.functions, self.files = name, crate, set(), {}
+        self.pairs, strays = pairs_of(text)
+        self.fault = f"no line of a mutant: {strays[0]}" if strays else None
+        self.applied_to({})
 
     def applied_to(self, texts):
         """The texts with this mutant applied, by their files; None where an old text does not stand in its file once."""
@@ -63,48 +61,46 @@ class Mutant:
         for file, old, new in self.pairs:
             if file not in texts:
                 texts[file] = read_text(f"{self.crate}/{file}")
-            if old is None or texts[file].count(old) != 1:
+            times = times_in(texts[file], old)
+            if times != 1:
+                self.fault = self.fault or f"{old!r} stands {times} times in {file}"
                 return None
-            self.note_function(function_at(texts[file], texts[file].index(old)), file)
+            line = texts[file].count("\n", 0, texts[file].index(old)) + 1
+            function = function_at(texts[file], line) if file.endswith(".rt") else file
+            if function:
+                self.functions.add(function)
+                self.files[function] = file
             texts[file] = texts[file].replace(old, new)
         return texts
 
-    def note_function(self, function, file):
-        """A check is asked for a function by its name where no other has it, nor a closure that is passed to it; else with its type or its
-        module."""
-        if not file.endswith(".rt"):
-            self.functions.add(file)
-        elif function:
-            self.functions.add(function)
-            texts = [read_text(it) for it in sources(self.crate)]
-            is_alone = sum(names_in(it).count(function) + is_derived(function, it) + takes_closures(function, it) for it in texts) == 1
-            self.paths[function] = function if is_alone else path_of(function, file, self.crate)
+    def asked(self):
+        """The functions that a check is asked for: that of the mutant's name, or all that it changes."""
+        function = self.name.partition("-")[0]
+        found = [function] if function in self.files else [it for it, file in self.files.items() if file != it]
+        return {path_of(it, self.files[it], self.crate) for it in found}
 
 
 def sources(crate):
     return glob.glob(f"{crate}/src/**/*.rt", recursive=True)
 
 
-def names_in(text):
-    return [it[1] for it in map(FUNCTION.match, text.splitlines()) if it]
+def times_named(function, text):
+    """How many functions of a text a check takes for one of this name: its own, what `derive` writes, and a closure that is passed to it."""
+    is_derived = function in DERIVED and re.search(rf"derive\(.*\b{DERIVED[function]}\b", text)
+    takes_closure = re.search(rf"\bfn {function}<[^(]*: Fn(?:Once|Mut)?\(", text)
+    return sum(it[0] == function for it in functions_in(text)) + bool(is_derived) + bool(takes_closure)
 
 
-def is_derived(function, text):
-    return bool(function in DERIVED and re.search(rf"derive\(.*\b{DERIVED[function]}\b", text))
-
-
-def takes_closures(function, text):
-    return bool(re.search(rf"\bfn {function}<[^(]*: Fn(?:Once|Mut)?\(", text))
-
-
-def function_at(text, place):
-    """The function in which a place stands: the last one that begins at or before its line."""
-    end = text.find("\n", place)
-    return ([None] + names_in(text[: end if end >= 0 else None]))[-1]
+def function_at(text, line):
+    """The function in which a line stands: the last one that begins there or before."""
+    return ([None] + [it[0] for it in functions_in("\n".join(text.split("\n")[:line]))])[-1]
 
 
 def path_of(function, file, crate):
-    """The function's path, if its file has one of its name and that is of no trait, and else the module's."""
+    """What a check is asked for: the name, where no other function has it, nor a closure that is passed to it; else with its type, if its
+    file has one of this name and that is of no trait; else the module."""
+    if sum(times_named(function, read_text(it)) for it in sources(crate)) == 1:
+        return function
     owners = [owner for name, owner, _ in functions_in(read_text(f"{crate}/{file}")) if name == function]
     module = "::".join(it for it in file[len("src/") : -len(".rt")].split("/") if it not in ("lib", "main", "mod"))
     owner = owners[0] or module if len(owners) == 1 and owners[0] != "trait" else ""

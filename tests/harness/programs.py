@@ -87,13 +87,15 @@ def used_seconds():
     return used.ru_utime + used.ru_stime
 
 
-def is_in_proportion(measure, small, large):
-    """Whether a large size takes at most twice as long as a small one, for each unit of size; `measure` returns the processor seconds that a
-    size takes. A busy machine makes some measures longer and none shorter, so the least of several counts before a size is too slow."""
+def is_in_proportion(do, small, large):
+    """Whether `do` takes at most twice as many processor seconds for a large size as for a small one, for each unit of size. A busy machine
+    makes some runs longer and none shorter, so the least of several counts before a size is too slow."""
     least = {}
     for _ in range(TRIES):
         for size in (small, large):
-            least[size] = min(measure(size), least.get(size, math.inf))
+            before = used_seconds()
+            do(size)
+            least[size] = min(used_seconds() - before, least.get(size, math.inf))
         if least[large] <= 2 * least[small] * large / small:
             return True
     return False

@@ -4,10 +4,7 @@ Two of three are valid: branches that edit the lines of a few files, pull from o
 one has some bytes or lines of a valid one changed.
 """
 
-import glob
-
 from tests.harness import golden
-from tests.harness.paths import EXAMPLES, read
 
 WORDS = [b"", b" ", b"\t", b"#", b"end", b"done", b"client", b"record", b"pull", b"+", b"-", b"0", b"main", b"\r", b"\xff", b"1073741824"]
 
@@ -155,9 +152,14 @@ def changed(script, chance):
     return script
 
 
-def example_scripts():
-    """The scripts of examples/ by their paths."""
-    return {path: read(path) for path in sorted(glob.glob(f"{EXAMPLES}/*.camp"))}
+def crowd(clients, records, is_race):
+    """A script of clients with so many records of added files each."""
+    lines = [] if is_race else [f"branch c{client} main" for client in range(1, clients + 1)]
+    for client in range(1, clients + 1):
+        branch = "main" if is_race else f"c{client}"
+        owners = [0 if is_race and at % 2 == 0 else client for at in range(1, records + 1)]
+        lines += ["client", *(f"record {branch} p{owner}-{at} add f{owner}-{at}" for at, owner in enumerate(owners, 1))]
+    return "".join(f"{line}\n" for line in lines).encode()
 
 
 def table_scripts(name):

@@ -29,16 +29,16 @@ from tests.harness.store import TITLE, encode
 TEXTS = {"|": "lines", "<": "given", ">": "output", "!": "error"}
 
 
-def play_all(report, program, name, what):
-    """Plays the cases of a file of tests/data, and counts them as `what`."""
+def play_all(trial, name, what):
+    """Plays the cases of a file of tests/data with the program of a trial, and counts them in its report as `what`."""
     for block in re.split(r"\n\n+", read_text(f"{DATA}/{name}").strip("\n")):
         title, steps = steps_of(block)
         if steps:
             with tempfile.TemporaryDirectory(prefix="session-") as folder:
-                session = Session(report, program, folder, title)
+                session = Session(trial.report, trial.program, folder, title)
                 for (step, *words), texts in steps:
                     session.steps[step](*words, **texts)
-            report.count(what)
+            trial.report.count(what)
 
 
 def steps_of(block):

@@ -10,26 +10,13 @@ TITLE = b"camp store 1\n"
 NO_STORE = "no store of camp"
 
 
-def title_with(catches, branches):
-    """The first text of a store whose repository has these limits, which are not the default ones."""
-    return b"camp store 1 catches %d branches %d\n" % (catches, branches)
-
-
-def chain(texts):
-    """The digest of each record: that of the one before it and its own text."""
-    digest = bytes(32)
+def encode(texts):
+    """The file of these texts, as docs/store.md has it: each with a digest of the record before it and of itself."""
+    digest, records = bytes(32), []
     for text in texts:
         digest = hashlib.sha256(digest + text).digest()
-        yield text, digest
-
-
-def encode(texts):
-    """The file of these texts, as docs/store.md has it."""
-    return b"".join(b"=%08x %s\n%s" % (len(text), digest[:8].hex().encode(), text) for text, digest in chain(texts)) + b"~"
-
-
-def digest_of(texts):
-    return [digest for _, digest in chain(texts)][-1]
+        records.append(b"=%08x %s\n%s" % (len(text), digest[:8].hex().encode(), text))
+    return b"".join(records) + b"~"
 
 
 def calls(number, first=0):

@@ -51,9 +51,9 @@ def can_trace():
         return False
 
 
-def run(words, commands, alone=False, at_call=lambda number, call: None, folder="."):
+def run(words, commands, alone=False, at_call=lambda call: None, folder="."):
     """Runs a program in a folder over commands: all at once, or each after the answer to the one before. At each system call `at_call` is
-    called with its number and the call, and decides: None, ("fail", errno), ("short", bytes), or "kill". Returns the exit
+    called with it, and decides: None, ("fail", errno), ("short", bytes), or "kill". Returns the exit
     status, standard output, standard error, and the calls that did not fail."""
     source, feed = os.pipe()
     out, error = os.memfd_create("out"), os.memfd_create("error")
@@ -94,13 +94,12 @@ def content(memory_file):
 
 def follow(pid, left, at_call):
     """Lets the program run to its end. After each answer the next command is sent."""
-    calls, number = [], 0
+    calls = []
     os.waitpid(pid, 0)
     ptrace(SET_OPTIONS, pid, 0, MARK_SYSTEM_CALLS | KILL_WITH_TRACER)
     while (status := next_stop(pid)) is None:
         call = call_of(pid)
-        decision = at_call(number, call)
-        number += 1
+        decision = at_call(call)
         if decision == "kill":
             os.kill(pid, signal.SIGKILL)
             return exit_code(os.waitpid(pid, 0)[1]), calls

@@ -9,8 +9,6 @@ from tests.harness.mutants import function_at
 VERDICT = re.compile(r"^fn (\S+): (not proved|proved|no proof: expected|no proof)", re.M)
 # An error, or a clause that is not proved, with its file and line.
 ERROR = re.compile(r"^(?:note: )?(?:\./)?(\S+?):(\d+):\d+:.*")
-
-
 # A goal that is not proved, and the end of its name where it is that of a clause.
 GOAL = re.compile(r"^note: .*not proved that.*")
 OF_CLAUSE = re.compile(r"-clause-(\w+)`\)")
@@ -34,5 +32,5 @@ def functions_with(printed, verdict):
 def function_of(error, texts):
     """The function that an error is about: of the source by its line, of a proof by its folder."""
     if error[1] in texts:
-        return function_at(texts[error[1]], sum(len(it) + 1 for it in texts[error[1]].split("\n")[: int(error[2]) - 1]))
+        return function_at(texts[error[1]], int(error[2]))
     return os.path.basename(os.path.dirname(error[1]))

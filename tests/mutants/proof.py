@@ -15,12 +15,11 @@ proved with it; or no mutant: it can't be applied, or doesn't reach the prover. 
 import os
 import re
 import shutil
-import subprocess
 from collections import Counter
 
 from tests.harness import programs
-from tests.harness.checks import check_in_place, words_over
-from tests.harness.crates import uses_of
+from tests.harness.checks import check_in_place, printed_by, words_over
+from tests.harness.crates import reached, uses_of
 from tests.harness.folders import temporary
 from tests.harness.mutants import Mutant, functions_in, mutants_of, sources
 from tests.harness.paths import TOP, read_text, write_text
@@ -36,15 +35,12 @@ NAMES_WHAT_IS_GONE = re.compile(r"(\./)?proofs/.*(has no field|is not in scope|h
 
 
 def run(report, words):
-    tree = os.path.abspath(words[1]) if words[:1] == ["--over"] else None
-    wanted = {}
-    for word in words[2:] if tree else words:
-        crate, _, begin = word.partition("/")
-        wanted.setdefault(crate, []).append(begin)
-    crates = {name: [it for it in mutants_of(f"{TOP}/crates/{name}", not tree) if it[0].startswith(tuple(begins))]
-              for name, begins in (wanted or {it: [""] for it in uses_of()}).items()}
-    crates = {name: some for name, some in crates.items() if some}
-    for _ in programs.each(lambda name: try_crate(report, name, crates[name], tree), sorted(crates, key=lambda it: -len(crates[it]))):
+    tree, words = (os.path.abspath(words[1]), words[2:]) if words[:1] == ["--over"] else (None, words)
+    named = [it.partition("/")[::2] for it in words]
+    is_wanted = lambda crate, mutant: not named or any(crate == it and mutant.startswith(begin) for it, begin in named)
+    crates = {name: [it for it in mutants_of(f"{TOP}/crates/{name}", not tree) if is_wanted(name, it[0])] for name in uses_of()}
+    names = sorted((it for it in crates if crates[it]), key=lambda it: -len(crates[it]))
+    for _ in programs.each(lambda name: try_crate(report, name, crates[name], tree), names):
         report.count("crates")
 
 
@@ -58,29 +54,7 @@ def try_crate(report, name, mutants, tree):
         if not tree:
             shutil.copytree(f"{TOP}/crates/{name}/out/incremental", f"{folder}/{name}/kept")
         words = [*words_over(name, tree or TOP), "--jobs", "1", "--incremental", "kept"]
-        check = Check(f"{folder}/{name}", words)
-        Trial(report, check, [Mutant(*it, check.crate) for it in mutants]).try_all()
-
-
-class Check:
-    """Checks of a crate's folder, by a command."""
-
-    def __init__(self, crate, words):
-        self.crate, self.words = crate, words
-
-    def of(self, texts, functions=()):
-        """What a check prints with these texts in place of the crate's own: of some functions, or of the whole crate."""
-        own = {file: read_text(f"{self.crate}/{file}") for file in texts}
-        self.write(texts)
-        words = [*self.words, *(it for name in sorted(functions) for it in ("--only", name))]
-        how = {"stdin": subprocess.DEVNULL, "stdout": subprocess.PIPE, "stderr": subprocess.STDOUT}
-        printed = subprocess.run(words, cwd=self.crate, **how).stdout.decode(errors="replace")
-        self.write(own)
-        return printed
-
-    def write(self, texts):
-        for file, text in texts.items():
-            write_text(f"{self.crate}/{file}", text)
+        Trial(report, f"{folder}/{name}", words, mutants).try_all()
 
 
 class Batch:
@@ -107,15 +81,27 @@ class Batch:
 
 
 class Trial:
-    """The mutants of one crate, and the verdicts."""
+    """The mutants of one crate, the words of a check of it, and the verdicts."""
 
-    def __init__(self, report, check, mutants):
-        self.report, self.check, self.mutants, self.verdicts, self.checks = report, check, mutants, {}, 0
-        self.name = os.path.basename(check.crate)
+    def __init__(self, report, crate, words, mutants):
+        self.report, self.crate, self.words, self.verdicts, self.checks = report, crate, words, {}, 0
+        self.name, self.mutants = os.path.basename(crate), [Mutant(*it, crate) for it in mutants]
+
+    def check(self, texts, functions=()):
+        """What a check prints with these texts in place of the crate's own: of some functions, or of the whole crate."""
+        own = {file: read_text(f"{self.crate}/{file}") for file in texts}
+        self.write(texts)
+        printed = printed_by([*self.words, *(it for name in sorted(functions) for it in ("--only", name))], self.crate)
+        self.write(own)
+        return printed
+
+    def write(self, texts):
+        for file, text in texts.items():
+            write_text(f"{self.crate}/{file}", text)
 
     def try_all(self):
-        left = [it for it in self.mutants if it.can_be_applied]
-        left = self.try_together(left, controls_of(self.check.crate))
+        left = [it for it in self.mutants if it.fault is None]
+        left = self.try_together(left, controls_of(self.crate))
         for mutant in left:
             self.verdicts[mutant] = self.verdict_alone(mutant)
         for mutant in self.mutants:
@@ -148,7 +134,7 @@ class Trial:
         unchanged = set(batch.unchanged(batch.functions))
         if not unchanged:
             return
-        printed = self.check.of(batch.texts, unchanged.union(*(it.asked for it in batch.mutants)))
+        printed = self.check(batch.texts, unchanged.union(*(it.asked() for it in batch.mutants)))
         self.checks += 1
         if not unchanged & functions_with(printed, "proved"):
             self.report.fail(f"{self.name}: {' or '.join(unchanged)} is not proved as it stands")
@@ -159,7 +145,7 @@ class Trial:
 
     def verdict_alone(self, mutant):
         """What a check of the whole crate says of the mutant alone."""
-        printed = self.check.of(mutant.applied_to({}))
+        printed = self.check(mutant.applied_to({}))
         if "logic=proved" in printed:
             return "let through"
         if "logic=not-proved" not in printed or not VERDICT.search(printed):
@@ -191,14 +177,3 @@ def controls_of(crate):
         calls[name] |= {*CALL.findall(text), *(it for sign, it in SIGNS.items() if sign in text)} & set(names)
     alone = [it for it in known if names[it[0]] == 1 and it[1] != "trait" and "{}" not in it[2]]
     return [(name, reached(name, calls)) for name, _, _ in sorted(alone, key=lambda it: (len(it[2]), it[0]))]
-
-
-def reached(name, calls):
-    """The name, all that its function names, and those that these name."""
-    found, left = set(), [name]
-    while left:
-        it = left.pop()
-        if it not in found:
-            found.add(it)
-            left += calls[it]
-    return found

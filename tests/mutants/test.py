@@ -10,6 +10,7 @@ function has a body for each of its mutants, and a switch between them. The prog
 each mutant.
 """
 
+import collections
 import os
 import re
 import subprocess
@@ -39,13 +40,8 @@ GOLDEN = {
 }
 # What takes so many seconds of a processor has noticed something as well; beside other work it may take so many times longer.
 LIMIT, PATIENCE = 120, 20
-
-
-class TestMutant:
-    """What a body says in one place, what it could have said, and the test that notices the difference."""
-
-    def __init__(self, number, file, title, old, new, test):
-        self.number, self.file, self.title, self.old, self.new, self.test = number, file, title, old, new, test
+# What a body says in one place of a file, what it could have said, and the test that notices the difference.
+TestMutant = collections.namedtuple("TestMutant", "number file title old new test")
 
 
 def read_mutants():
@@ -66,21 +62,17 @@ def read_mutants():
 def run(report, words):
     named = [it for it in words if not it.startswith("--")]
     mutants = [it for it in read_mutants() if not named or it.file in named or it.file.split("/")[0] in named]
-    known_of, is_find = known_tables(), "--find" in words
-    known = {name for tables_of_it in known_of.values() for name in tables_of_it}
+    is_find, noticed = "--find" in words, {}
     with temporary("mutants-") as folder:
         make_copy(folder, mutants)
-        noticed = {}
-        by_table = mutants if is_find else [it for it in mutants if it.test in known]
-        for crate, tables_of_it in known_of.items():
-            some = [it for it in by_table if is_find or it.test in tables_of_it]
+        for crate, known in known_tables().items():
+            some = [it for it in mutants if is_find or it.test in known]
             if some:
                 program = f"{folder}/{crate}"
                 unproved.build(f"{folder}/crates/{crate}", program)
-                noticed.update((find if is_find else notice)(report, program, some, tables_of_it))
-        left = [it for it in mutants if it not in noticed and it.test not in known]
+                noticed.update(find(program, some, known) if is_find else differing(program, [(it, it.test) for it in some], known, report))
         for kind in GOLDEN:
-            noticed.update(by_program(report, folder, kind, [it for it in left if it.test.split()[0] == kind]))
+            noticed.update(by_program(report, folder, kind, [it for it in mutants if it not in noticed and it.test.split()[0] == kind]))
     for it in mutants:
         report.count("test mutants")
         if is_find:
@@ -154,21 +146,7 @@ def answers(program, table, number=0):
         return b"", None
 
 
-def notice(report, program, mutants, known):
-    """The mutants that their tables notice, those of quick tables first."""
-    noticed, seconds = {}, {}
-    for name in {it.test for it in mutants}:
-        started = time.time()
-        report.expect(f"table {name} without a mutant", answers(program, known[name])[1], 0)
-        seconds[name] = time.time() - started
-    for name in sorted(seconds, key=seconds.get):
-        some = differing(program, [(it, name) for it in mutants if it.test == name], known)
-        report.note(f"table {name}: {len(some)} mutants noticed")
-        noticed.update(some)
-    return noticed
-
-
-def find(report, program, mutants, known):
+def find(program, mutants, known):
     """The mutants that quick tables notice, or slow ones where no quick one does."""
     quick, slow = [], []
     for name in known:
@@ -179,10 +157,12 @@ def find(report, program, mutants, known):
     return {**noticed, **differing(program, [(it, name) for it in mutants if it not in noticed for name in slow], known)}
 
 
-def differing(program, pairs, known):
-    """Of mutants with tables those that answer otherwise: the tables of each mutant."""
+def differing(program, pairs, known, report=None):
+    """Of mutants with tables those that answer otherwise: the tables of each mutant. Reports a table that fails without a mutant."""
     names = sorted({name for _, name in pairs})
     plain, noticed = dict(programs.each(lambda it: answers(program, known[it]), names)), {}
+    for name in names if report else ():
+        report.expect(f"table {name} without a mutant", plain[name][1], 0)
     for (mutant, name), is_other in programs.each(lambda it: answers(program, known[it[1]], it[0].number) != plain[it[1]], pairs):
         if is_other:
             noticed.setdefault(mutant, []).append(name)

@@ -46,10 +46,12 @@ class Gateway:
         raise Away("no endpoint of etcd answers")
 
     def lines(self, path: str, asked: Dict, timeout: float) -> Iterator[bytes]:
-        """The lines of an answer that goes on."""
+        """The lines of an answer that goes on, and comes in chunks."""
         response = _post(http.client.HTTPConnection(self._endpoint(), timeout=timeout), path, asked)
-        while line := response.readline():
-            yield line
+        rest = b""
+        while size := int(response.fp.readline(), 16):
+            *lines, rest = (rest + response.fp.read(size + 2)[:-2]).split(b"\n")
+            yield from lines
 
     def take_next(self) -> None:
         """The next request goes to another endpoint."""

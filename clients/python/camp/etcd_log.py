@@ -3,10 +3,13 @@ import base64
 import contextlib
 import json
 import threading
-from typing import Dict, List, Sequence
+from typing import Callable, Dict, List, Sequence
 
 from .etcd_gateway import NO_ANSWER, Gateway, coded
 from .logs import TITLE, AppendOutcome, Away, Damaged, default_patience, write_title
+
+# Seconds between two lines that nobody waits for: those that come while an entry is written are then read at once.
+REST = 0.01
 
 
 class EtcdLog:
@@ -20,7 +23,7 @@ class EtcdLog:
         self._entries, self._revision, self._damaged, self._closed = [], 0, None, False
         # The revisions of what was written when it was opened, and last.
         self._first, self._written = 0, 0
-        self._changed = threading.Condition()
+        self._changed, self._is_awaited = threading.Condition(), threading.Event()
         write_title(self, title)
         # Where etcd is full, or is read-only, the log can be read all the same.
         with contextlib.suppress(Away):
@@ -47,8 +50,7 @@ class EtcdLog:
 
     def read(self, index: int, wait: float = 0.0) -> List[bytes]:
         with self._changed:
-            is_there = lambda: len(self._entries) > index and self._revision >= self._written
-            self._changed.wait_for(lambda: is_there() or self._damaged is not None, wait)
+            self._wait_for(lambda: len(self._entries) > index and self._revision >= self._written, wait)
             if len(self._entries) <= index and self._damaged is not None:
                 raise Damaged(self._damaged)
             return self._entries[index:index + 1024]
@@ -58,9 +60,17 @@ class EtcdLog:
         found = self._gateway.ask("kv/range", {"key": self._count}).get("kvs", [])
         with self._changed:
             while (seen := self._revision) < self._first and self._damaged is None:
-                if not self._changed.wait_for(lambda: self._revision > seen or self._damaged is not None, default_patience()):
+                if not self._wait_for(lambda: self._revision > seen, default_patience()):
                     raise Away("etcd does not send the entries of the log")
             return max(int(found[0]["version"]) if found else 0, 0 if self._damaged is None else self._damaged + 1)
+
+    def _wait_for(self, is_so: Callable[[], bool], seconds: float) -> bool:
+        """Waits for that many seconds until something is so, or an entry is damaged; whether it is. The lock is held."""
+        self._is_awaited.set()
+        try:
+            return self._changed.wait_for(lambda: self._damaged is not None or is_so(), seconds)
+        finally:
+            self._is_awaited.clear()
 
     def close(self) -> None:
         self._closed = True
@@ -76,6 +86,7 @@ class EtcdLog:
                     self._take(found)
                     if found.get("canceled") or self._damaged is not None:
                         break
+                    self._is_awaited.wait(REST)
             self._gateway.take_next()
 
     def _take(self, response: Dict) -> None:
@@ -91,7 +102,9 @@ class EtcdLog:
                     self._damaged = len(self._entries)
                     break
                 self._entries.append(base64.b64decode(kv.get("value", "")))
-            self._changed.notify_all()
+            # Who has written waits for that, and not for what others wrote before.
+            if self._revision >= self._written or self._damaged is not None:
+                self._changed.notify_all()
 
     def _load(self) -> None:
         """All entries as they are now, where etcd no longer knows how they came; as many as were ever counted."""

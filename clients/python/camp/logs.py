@@ -196,6 +196,7 @@ class SqliteLog:
                     _patiently(lambda: base.execute("BEGIN IMMEDIATE"), TIMEOUT, SHORT_PAUSE)
                 at, before = base.execute(LAST).fetchone() or (-1, b"")
                 base.execute("INSERT INTO entries VALUES (?, ?, ?)", (at + 1, tag, sealed(text, before)))
+            self._local.before = at + 1, before
             return AppendOutcome.APPENDED
         except sqlite3.IntegrityError:
             return AppendOutcome.TAKEN
@@ -244,9 +245,16 @@ class SqliteLog:
         while True:
             rows = self._once("SELECT at, text FROM entries WHERE at >= ? ORDER BY at LIMIT 1024", index)
             if rows or time.monotonic() >= end:
-                before = self._once("SELECT {} FROM entries WHERE at = ?".format(END), index - 1) if rows else []
-                return in_order(index, before[0][0] if before else b"", rows)
+                return in_order(index, self._before(index) if rows else b"", rows)
             time.sleep(PAUSE)
+
+    def _before(self, index: int) -> bytes:
+        """The end of the entry before an index. Whoever has just written at the index has read that."""
+        known, before = self._local.__dict__.pop("before", (None, b""))
+        if known == index:
+            return before
+        rows = self._once("SELECT {} FROM entries WHERE at = ?".format(END), index - 1)
+        return rows[0][0] if rows else b""
 
     def length(self) -> int:
         return self._once("SELECT coalesce(max(at) + 1, 0) FROM entries")[0][0]

@@ -40,7 +40,7 @@ class Questions:
         # Where there is none, this is raised before there is anything to close.
         require_library()
         self._handle = Handle()
-        self._lock = threading.Lock()
+        self._lock = threading.RLock()
 
     def __enter__(self: Self) -> Self:
         return self

@@ -19,10 +19,10 @@ from __future__ import annotations
 
 import collections
 import os
-import re
 import time
 from typing import Any, Deque, Dict, List, Optional, Sequence, Tuple
 
+from ._entries import CALLS, calls_of, canonical, noted, parted
 from ._member import Code, LogMember
 from .answers import AcceptedCall, Answer
 from .changes import Change, Text, record_command, to_bytes
@@ -31,13 +31,11 @@ from .logs import AppendOutcome, Away, Damaged, Log, default_patience, limits_of
 from .repository import Calls, Repository
 from .snapshots import BadSnapshot, Snapshot, read_snapshot
 
-CALLS = (b"branch", b"record", b"pull", b"obliterate")
-NOTE = b"#note"
-# What ends the body of an edit, and of a group.
-ENDS = {b"edit": re.compile(rb"\nend\n"), b"group": re.compile(rb"\n[ \t]*done[ \t]*\n")}
 NOT_READ = b"the log ends before what was seen\n"
 NOT_TAKEN = b"the log refused the entry\n"
 STOPPED = b"stopped\n"
+# The most calls that a repository executes at a time to catch up.
+AT_ONCE = 4096
 # What is answered where there is no reply.
 NO_REPLY = {Code.REFUSED: NOT_TAKEN, Code.ENDED: NOT_READ, Code.STOPPED: STOPPED}
 
@@ -55,61 +53,6 @@ class LogRefused(Error):
     """The log took nothing of what was asked, and never will: it is full, or the entry is too large. Nothing has changed."""
 
 
-def noted(call: bytes, note: bytes) -> bytes:
-    """A call as an entry has it, after its note."""
-    return b"".join(NOTE + b" " * bool(line) + line + b"\n" for line in note.split(b"\n") if note) + call
-
-
-def parted(text: bytes) -> Tuple[bytes, bytes]:
-    """The call of a text, and the note before it."""
-    notes: List[bytes] = []
-    while text.startswith(b"#"):
-        line, _, text = text.partition(b"\n")
-        rest = line[len(NOTE):] if line.startswith(NOTE) else line
-        notes.append(rest[1:] if rest.startswith(b" ") else rest)
-    return text, b"\n".join(notes)
-
-
-def calls_of(body: bytes) -> List[Tuple[bytes, bytes]]:
-    """The calls of the lines of an entry, each with its note: a record of an edit goes to `end`, one of a group to `done`."""
-    calls: List[Tuple[bytes, bytes]] = []
-    notes: List[bytes] = []
-    start = 0
-    while start < len(body) and (end := body.find(b"\n", start) + 1):
-        line = body[start:end]
-        if line.startswith(NOTE):
-            text = line[len(NOTE):-1]
-            notes.append(text[1:] if text.startswith(b" ") else text)
-        else:
-            words = line.split(None, 4)
-            last = ENDS.get(words[3] if words[:1] == [b"record"] and len(words) > 3 else b"")
-            if last:
-                found = last.search(body, end - 1)
-                end = found.end() if found else len(body)
-            calls.append((body[start:end], b"\n".join(notes)))
-            notes = []
-        start = end
-    return calls
-
-
-def canonical(call: bytes) -> bytes:
-    """A call with single spaces, plain line numbers, and without the comments of a group: what a log has of it."""
-    found, is_body = [], False
-    for line in call.split(b"\n")[:-1]:
-        words = [it for it in re.split(rb"[ \t]+", line) if it]
-        if is_body:
-            found.append(line)
-            is_body = line != b"end"
-        elif words and not words[0].startswith(b"#"):
-            # Where the line number of an edit stands.
-            at = 2 if words[0] == b"edit" else 5 if words[0] == b"record" and words[3:4] == [b"edit"] else None
-            if at and words[at:]:
-                words[at] = words[at].lstrip(b"0") or b"0"
-            found.append(b" ".join(words))
-            is_body = at is not None
-    return b"".join(line + b"\n" for line in found)
-
-
 def what_if(repository: Repository, call: bytes) -> bytes:
     """The answer that a call would have now."""
     lines = repository.ask(b"whatif " + call).split(b"\n", 2)
@@ -118,15 +61,18 @@ def what_if(repository: Repository, call: bytes) -> bytes:
 
 class Member:
     """A member of a log: the library decides each entry where it stands, each tag once, and says what it wants of the log. A
-    repository beside it has the accepted calls, for questions and notes. `answers` has (request, answer, place), in the order of
-    requests; a place is an index of the log and which call of the entry, or for what was answered at what was read the index alone."""
+    repository beside it executes the accepted calls once it is used: for the history, notes, and calls that the log does not have yet.
+    `answers` has (request, answer, place), in the order of requests; a place is an index of the log and which call of the entry, or for
+    what was answered at what was read the index alone."""
 
     def __init__(self, seat: Optional[str] = None):
-        self.repository, self.seat = Repository(), seat or os.urandom(16).hex()
+        self._repository, self.seat = Repository(), seat or os.urandom(16).hex()
         self.index, self.count, self.is_appending = 0, 0, False
         self.answers: Deque[Tuple[Any, bytes, Any]] = collections.deque()
         self.stopped: Optional[Stopped] = None
-        self.notes: Dict[str, bytes] = {}
+        # How many accepted calls the repository has executed, and their notes.
+        self._executed = 0
+        self._notes: Dict[str, bytes] = {}
         # Calls that the repository has and the log does not have yet, each with its answer.
         self._ahead: Deque[Tuple[bytes, bytes]] = collections.deque()
         self._title = b""
@@ -139,12 +85,47 @@ class Member:
     @property
     def is_settled(self) -> bool:
         """Whether each request has its answer, the log can be read on, and the repository has just what was read."""
-        return not self._waiting and self.stopped is None and not self._ahead
+        return not self._waiting and self.stopped is None and not self.is_ahead
 
     @property
     def is_ahead(self) -> bool:
         """Whether the repository has calls that the log does not have yet."""
+        if self._ahead:
+            self.catch_up()
         return bool(self._ahead)
+
+    @property
+    def repository(self) -> Repository:
+        """The repository after what was read."""
+        self.catch_up()
+        return self._repository
+
+    @property
+    def notes(self) -> Dict[str, bytes]:
+        """The notes, by the names of their patches."""
+        self.catch_up()
+        return self._notes
+
+    def respond(self, question: bytes) -> bytes:
+        """The response to a question, by the repository if it has executed all that was read, or else by the library."""
+        if self._ahead or self._executed == self.count:
+            return self.repository.ask(question)
+        assert self._decides
+        with self._decides.view() as view:
+            return view.ask(question)
+
+    def catch_up(self) -> None:
+        """Executes in the repository what was accepted since it was last used, and keeps the notes."""
+        with self._repository._lock:
+            while self._executed < self.count:
+                assert self._decides
+                end = min(self.count, self._executed + AT_ONCE)
+                found = [parted(self._decides.call(at)) for at in range(self._executed, end)]
+                answers = self._execute([call for call, _ in found])
+                assert len(answers) == len(found)
+                for call, note in found:
+                    self._keep(call, note)
+                self._executed = end
 
     def ask(self, call: bytes, at_least: int = 0, request: Any = None, note: bytes = b"") -> None:
         """Asks a call, with its note, or one of the questions `tree`, `conflicts` and `names`; at a history of so many calls at least."""
@@ -211,13 +192,13 @@ class Member:
             if self._decides.found(index, text) is Code.FOREIGN:
                 is_own = text.startswith(b"entry %s " % self.seat.encode())
                 self._stop("an entry of another process with this seat" if is_own else "a foreign entry")
-            self._keep_accepted()
+            self.count = self._decides.accepted
             self._take_answers(index)
         self.index += 1
 
     def _open(self, title: bytes) -> None:
         try:
-            self.repository.begin_again(**limits_of(title))
+            self._repository.begin_again(**limits_of(title))
             self._decides, self._title = LogMember(self.seat, title), title
         except ValueError:
             self._stop("no title of a log of camp")
@@ -231,17 +212,7 @@ class Member:
         for index, text in snapshot.entries:
             if self._decides.restore(index, text) is not Code.DONE:
                 raise BadSnapshot("the snapshot has an entry that can't follow, at {}".format(index))
-            self._keep_accepted()
-        self.index = snapshot.index + 1
-
-    def _keep_accepted(self) -> None:
-        """Executes the calls that were accepted in the last entry in the repository too, and keeps their notes."""
-        assert self._decides
-        found = [parted(self._decides.call(at)) for at in range(self.count, self._decides.accepted)]
-        answers = self._execute([call for call, _ in found])
-        assert len(answers) == len(found)
-        for (call, note), answer in zip(found, answers):
-            self._keep(call, note, answer)
+        self.index, self.count = snapshot.index + 1, self._decides.accepted
 
     def _execute(self, calls: List[bytes]) -> List[bytes]:
         """Executes calls in the repository, without those that were executed ahead. If the first ones are not those, it is made anew before."""
@@ -252,15 +223,15 @@ class Member:
         for _ in done:
             self._ahead.popleft()
         left = b"".join(calls[len(done):])
-        return [answer for _, answer in done] + (self.repository.ask(left).splitlines(keepends=True) if left else [])
+        return [answer for _, answer in done] + (self._repository.ask(left).splitlines(keepends=True) if left else [])
 
     def _make_anew(self) -> None:
-        """Makes the repository anew, of the accepted calls of what was read."""
+        """Makes the repository anew, of the accepted calls that it has executed."""
         assert self._decides
         self._ahead.clear()
-        self.repository.begin_again(**limits_of(self._title))
-        for at in range(self.count):
-            self.repository.ask(self._decides.call(at))
+        self._repository.begin_again(**limits_of(self._title))
+        for at in range(self._executed):
+            self._repository.ask(self._decides.call(at))
 
     def execute_ahead(self, call: bytes) -> bytes:
         """Executes a call in the repository before the log is asked it, and returns its answer."""
@@ -269,17 +240,19 @@ class Member:
             self._ahead.append((call, answer))
         return answer
 
-    def _keep(self, call: bytes, note: bytes, answer: bytes) -> None:
-        """Counts an accepted call, and keeps its note."""
-        if answer.startswith(b"ok"):
-            self.count += 1
-            if note and call.startswith(b"record"):
-                self.notes[call.split(None, 3)[2].decode("ascii", "replace")] = note
+    def _keep(self, call: bytes, note: bytes) -> None:
+        """Keeps the note of an accepted call."""
+        if note and call.startswith(b"record"):
+            self._notes[call.split(None, 3)[2].decode("ascii", "replace")] = note
 
     def execute(self, call: bytes, note: bytes = b"") -> bytes:
         """Executes a call that no log has, and returns its answer."""
+        self.catch_up()
         answer = b"".join(self._execute([call]))
-        self._keep(call, note, answer)
+        if answer.startswith(b"ok"):
+            self._keep(call, note)
+            self.count += 1
+            self._executed += 1
         return answer
 
     def _stop(self, why: str) -> None:
@@ -343,6 +316,7 @@ class Shared(Calls):
     def __init__(self, log: Log, seat: Optional[str] = None, patience: Optional[float] = None, snapshot: Optional[str] = None) -> None:
         super().__init__()
         self._log, self._member = log, Member(seat)
+        self._handle, self._lock = self._member.repository._handle, self._member.repository._lock
         if snapshot is not None:
             found = read_snapshot(snapshot)
             found.check(log)
@@ -350,7 +324,6 @@ class Shared(Calls):
         self._patience = default_patience() if patience is None else patience
         # How many calls were asked of the member: each has its number, since an answer may come after nobody waits for it.
         self._asked = 0
-        self._handle, self._lock = self._member.repository._handle, self._member.repository._lock
 
     @property
     def notes(self) -> Dict[str, bytes]:
@@ -420,11 +393,12 @@ class Shared(Calls):
         end = time.monotonic() + self._patience
         while len(answers) < len(calls):
             turn(member, self._log)
+            if member.answers:
+                end = time.monotonic() + self._patience
             while member.answers:
                 request, answer, _ = member.answers.popleft()
                 if request >= first:
                     answers[request] = answer
-                end = time.monotonic() + self._patience
             if time.monotonic() > end:
                 raise OutcomeUnknown("the log does not answer")
         return [answers[at] for at in range(first, first + len(calls))]
@@ -466,6 +440,13 @@ class Shared(Calls):
     def history(self) -> List[AcceptedCall]:
         """The accepted calls of what was read, in their order."""
         return self._member.repository.history()
+
+    def _respond(self, text: bytes) -> bytes:
+        return self._member.respond(text)
+
+    def _cause(self, text: bytes) -> str:
+        self._member.catch_up()
+        return super()._cause(text)
 
     def _write(self, text: bytes, note: bytes = b"") -> int:
         words = Answer(self._answer(text, note)).next_words()

@@ -30,11 +30,24 @@ fn seal(text: &[u8], before: &[u8]) -> String {
 // CRC-32, as zlib has it.
 fn checksum<'a>(bytes: impl Iterator<Item = &'a u8>) -> u32 {
     !bytes.fold(!0, |sum, byte| {
-        (0..8).fold(sum ^ u32::from(*byte), |sum, _| {
-            (sum >> 1) ^ (0xedb8_8320 & (sum & 1).wrapping_neg())
-        })
+        TABLE[usize::from(sum as u8 ^ byte)] ^ (sum >> 8)
     })
 }
+
+// What each last byte of a sum adds to its next value.
+const TABLE: [u32; 256] = {
+    let (mut table, mut byte) = ([0; 256], 0);
+    while byte < 256 {
+        let (mut sum, mut bit) = (byte as u32, 0);
+        while bit < 8 {
+            sum = (sum >> 1) ^ (0xedb8_8320 & (sum & 1).wrapping_neg());
+            bit += 1;
+        }
+        table[byte] = sum;
+        byte += 1;
+    }
+    table
+};
 
 #[test]
 fn a_changed_or_moved_text_shows() {

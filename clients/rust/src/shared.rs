@@ -106,34 +106,58 @@ impl<L: Log> Shared<L> {
         self.write(command("obliterate", &[branch], patches).as_bytes())
     }
 
-    // Asks a command that writes, and waits until its entry was read back.
-    fn write(&mut self, text: &[u8]) -> Result<u64, Error> {
-        self.requests += 1;
-        match self.member.ask(self.requests, text, 0)? {
-            Queued::Waits => (),
-            Queued::TooLong => return Err(LogError::Refused.into()),
-            // It is no call: a question of what it would do says why.
-            Queued::NoCall => {
-                return Err(run(self, [b"whatif ", text].concat())?.unexpected());
+    /// Asks calls, each a command in canonical form, in as few entries as they fit in. Returns the answer of each; a refusal is
+    /// an answer as any other.
+    pub fn write_all(
+        &mut self,
+        calls: &[impl AsRef<[u8]>],
+    ) -> Result<Vec<Result<Answer, Error>>, Error> {
+        let mut failed = Vec::new();
+        for (at, call) in calls.iter().enumerate() {
+            if let Err(error) = self.queue(call.as_ref()) {
+                failed.push((at, Err(error)));
             }
         }
-        let answer = self.await_answer()?;
+        let mut answers = self.await_answers(calls.len() - failed.len())?;
+        for (at, error) in failed {
+            answers.insert(at, error);
+        }
+        Ok(answers)
+    }
+
+    // Asks a command that writes, and waits until its entry stands in the log.
+    fn write(&mut self, text: &[u8]) -> Result<u64, Error> {
+        self.queue(text)?;
+        let answer = self.await_answers(1)?.remove(0)?;
         match answer.failure(String::new) {
             None => answer.read("ok", |number, _| Some(number)),
             Some(error) => Err(error),
         }
     }
 
-    // The answer to the last request. Those to earlier ones, for which nobody waits any more, are dropped.
-    fn await_answer(&mut self) -> Result<Answer, Error> {
-        let end = Instant::now() + patience();
-        loop {
+    fn queue(&mut self, text: &[u8]) -> Result<(), Error> {
+        match self.member.ask(self.requests + 1, text, 0)? {
+            Queued::Waits => self.requests += 1,
+            Queued::TooLong => return Err(LogError::Refused.into()),
+            // It is no call: a question of what it would do says why.
+            Queued::NoCall => {
+                return Err(run(self, [b"whatif ", text].concat())?.unexpected());
+            }
+        }
+        Ok(())
+    }
+
+    // The answers to the last requests, so many. Those to earlier ones, for which nobody waits any more, are dropped.
+    fn await_answers(&mut self, count: usize) -> Result<Vec<Result<Answer, Error>>, Error> {
+        let (mut answers, mut end) = (Vec::with_capacity(count), Instant::now() + patience());
+        let before = self.requests - count as u64;
+        while answers.len() < count {
             let is_sent = self.take_step()?;
             while let Some((request, answer)) = self.member.answer()? {
-                if request == self.requests {
-                    return answer
-                        .map(Answer::new)
-                        .map_err(|why| self.without_reply(why));
+                end = Instant::now() + patience();
+                if request > before {
+                    let answer = answer.map(Answer::new);
+                    answers.push(answer.map_err(|why| self.without_reply(why)));
                 }
             }
             if Instant::now() > end {
@@ -146,6 +170,7 @@ impl<L: Log> Shared<L> {
                 .into());
             }
         }
+        Ok(answers)
     }
 
     // One exchange with the log. Returns whether an entry is under way. A log that does not answer is asked again after a pause.

@@ -1,11 +1,10 @@
 use crate::checksums::{sealed, unsealed};
 use crate::errors::LogError;
 use crate::queue::Queue;
-use crate::shared::{patience, Appended, Log, PAUSE};
+use crate::shared::{patience, Appended, Log};
 use crate::sqlite::{Sqlite, CONSTRAINT, DONE, FULL, READ_ONLY, TOO_BIG};
 use std::ffi::c_int;
 use std::path::Path;
-use std::thread;
 use std::time::Instant;
 
 const OTHERS: &str =
@@ -26,7 +25,8 @@ const READ: &str =
 
 /// A log in a table of a SQLite file, for the processes of one machine: that of `SqliteLog` of camp for Python. Each entry is
 /// on the disk before it counts. Those who append take turns by the file `PATH-queue`.
-pub struct SqliteLog(Sqlite, Queue);
+// Last is the index of the entry that was just written, and the end of that before it, until the log is read.
+pub struct SqliteLog(Sqlite, Queue, Option<(usize, Vec<u8>)>);
 
 impl SqliteLog {
     /// The log in a file, which is made if it does not exist.
@@ -41,14 +41,14 @@ impl SqliteLog {
         let end = Instant::now() + patience();
         for sql in OPEN {
             while base.run(sql, "", b"", 0).0 != DONE {
-                wait(&mut base, end)?;
+                base.wait(end)?;
             }
         }
-        let mut log = SqliteLog(base, Queue::open(&format!("{path}-queue")));
+        let mut log = SqliteLog(base, Queue::open(&format!("{path}-queue")), None);
         while log.read(0)?.is_empty() {
             match log.append("log", b"camp log 1\n") {
                 Appended::Done => break,
-                Appended::Unknown => wait(&mut log.0, end)?,
+                Appended::Unknown => log.0.wait(end)?,
                 Appended::Refused => return Err(LogError::Away(log.0.message())),
             }
         }
@@ -57,7 +57,7 @@ impl SqliteLog {
 
     // Appends in a transaction, and returns the code of its last statement: that is `DONE`, or what was written is rolled back.
     fn write(&mut self, tag: &str, text: &[u8]) -> c_int {
-        let SqliteLog(base, queue) = self;
+        let SqliteLog(base, queue, written) = self;
         let begun = queue.run(|| base.run(BEGIN, "", b"", 0).0);
         if begun != DONE {
             return begun;
@@ -70,7 +70,9 @@ impl SqliteLog {
                 code = base.run(sql, tag, &stored, at).0;
             }
         }
-        if code != DONE {
+        if code == DONE {
+            *written = Some((at, before));
+        } else {
             base.run(ROLLBACK, "", b"", 0);
         }
         code
@@ -90,7 +92,11 @@ impl Log for SqliteLog {
     }
 
     fn read(&mut self, index: usize) -> Result<Vec<Vec<u8>>, LogError> {
-        let (code, mut last) = self.0.run(LAST, "", b"", index);
+        let (code, mut last) = match self.2.take() {
+            // Whoever has just written there has read what is before.
+            Some((at, before)) if at == index => (DONE, vec![(at, before)]),
+            _ => self.0.run(LAST, "", b"", index),
+        };
         let (end, rows) = self.0.run(READ, "", b"", index);
         if (code, end) != (DONE, DONE) {
             return Err(LogError::Away(self.0.message()));
@@ -107,13 +113,4 @@ impl Log for SqliteLog {
         }
         Ok(entries)
     }
-}
-
-// Waits a little before a file is asked again that another process holds; an error once the time is over.
-fn wait(base: &mut Sqlite, end: Instant) -> Result<(), LogError> {
-    if Instant::now() > end {
-        return Err(LogError::Away(base.message()));
-    }
-    thread::sleep(PAUSE);
-    Ok(())
 }

@@ -130,6 +130,24 @@ fn a_call_stands_once_whatever_was_lost() {
 }
 
 #[test]
+fn several_calls_go_into_one_entry() {
+    let log = Memory::new();
+    let mut ann = Shared::open(log.clone()).unwrap();
+    let calls = ["branch a main", "branch a main", "no call", "branch b a"];
+    let calls = calls.map(|it| format!("{it}\n"));
+    let mut answers = ann.write_all(&calls).unwrap();
+    assert_eq!(log.len(), 2);
+    assert!(matches!(answers.remove(2), Err(Error::Fault { .. })));
+    let answers: Vec<_> = answers.into_iter().map(|it| it.unwrap()).collect();
+    let texts: Vec<_> = answers.iter().map(|it| it.as_bytes()).collect();
+    assert_eq!(texts, [&b"ok 1\n"[..], b"refused 5 a\n", b"ok 2\n"]);
+    log.next(&[Fate::Refused]);
+    let refused = ann.write_all(&["branch c main\n"]).unwrap();
+    assert_eq!(refused, [Err(Error::Log(LogError::Refused))]);
+    assert_eq!(ann.sync(), Ok(2));
+}
+
+#[test]
 fn what_the_log_refuses_is_not_done() {
     let log = Memory::new();
     let mut ann = Shared::open(log.clone()).unwrap();

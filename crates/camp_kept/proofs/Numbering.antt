@@ -1,19 +1,17 @@
 -- The offset at which a file is damaged: the length of the blocks before it.
-use Rattle.std.proofs.Common.{◌≡◌, ◌⊎◌, inl, inr, ◌+◌, ◌≤◌, ◌<◌, ◌^◌, min, nat_lt, ℕ, Bool, true, false, List, [], ◌∷◌, ◌++◌, length, map, refl, sym, ◌∙◌, ap, subst, arith, append_assoc, length-append}
-use Rattle.std.proofs.lemmas.List.{length-map}
+use Rattle.std.proofs.Common.{◌≡◌, inl, inr, ◌+◌, min, nat_lt, ℕ, Bool, true, false, List, [], ◌∷◌, ◌++◌, length, refl, sym, ◌∙◌, ap, subst, arith, append_assoc}
 use Rattle.std.proofs.lemmas.Bool.{ltb-false, ltb-true}
-use Rattle.camp_call.specs.declared.calls.Call.{Call}
-use Rattle.camp_kept.specs.Accepting.{History, alone}
+use Rattle.camp_kept.specs.Accepting.{History}
 use Rattle.camp_kept.specs.Titles.{CanBeLimits, title_of}
-use Rattle.camp_kept.specs.Faults.{IsBlockOfNoCall, IsDamagedAt, ReportsNumber}
-use Rattle.camp_kept.specs.Persisting.{call_texts, store_texts}
-use Rattle.camp_kept.specs.Replaying.{AreReplayed, ReplaysText}
+use Rattle.camp_kept.specs.Faults.{IsDamagedAt, ReportsNumber}
+use Rattle.camp_kept.specs.Replaying.{AreReplayed, RefusesText}
+use Rattle.camp_kept.proofs.ReplayLemmas.{next_is}
+use Rattle.camp_notes.specs.declared.logs.PlacedNote.{PlacedNote}
 use Rattle.camp_object.specs.Histories.{IsLegal}
 use Rattle.camp_object.specs.Objects.{begun}
 use Rattle.camp_repo.specs.Limits.{Bounds}
 use Rattle.camp_repo.specs.Objects.{repository}
-use Rattle.camp_script.specs.Canonical.{call_text}
-use Rattle.camp_store.specs.Blocks.{AreBlocks, DecodesTo, IsBlock, IsEnd, body, chain, digest_after, first_digest}
+use Rattle.camp_store.specs.Blocks.{AreBlocks, DecodesTo, chain, digest_after, first_digest}
 use Rattle.camp_store.proofs.BlockLemmas.{are-append, block_more, one_block}
 use Rattle.camp_store.proofs.HeadLemmas.{long_body}
 
@@ -61,18 +59,11 @@ split_blocks before (text ∷ texts) others bytes (after, block, more) =
       more = split_at.more;
     }
 
--- how many calls were executed
-pub replayed_count : (limits : Bounds) (texts : List (List ℕ)) (history : History) → AreReplayed limits texts history → length history.calls ≡ length texts
-replayed_count limits texts history asked =
-    ap (λ (h : History). length h.calls) asked.is
-    ∙ length-map asked.calls (λ (call : Call). (0, call))
-    ∙ sym (ap (λ (l : List (List ℕ)). length l) asked.texts_are ∙ length-map asked.calls call_text)
-
--- a file of a title and of texts, one of which is of no call that is accepted there
-pub damaged_there : (limits : Bounds) (done : List (List ℕ)) (text : List ℕ) (rest : List (List ℕ)) (history after : History) → CanBeLimits limits → AreReplayed limits done history
-    → IsLegal (begun repository history.first) history.calls → ReplaysText history text false after
+-- a file of a title and of texts, one of which is of no entry that can come there
+pub damaged_there : (limits : Bounds) (done : List (List ℕ)) (text : List ℕ) (rest : List (List ℕ)) (history : History) (notes : List PlacedNote) → CanBeLimits limits → AreReplayed limits done history notes
+    → IsLegal (begun repository history.first) history.calls → RefusesText history text
     → (call at : ℕ) → ReportsNumber call (length done + 1) → ReportsNumber at (27 + length (title_of limits) + size done) → (file : List ℕ) → DecodesTo (title_of limits ∷ (done ++ text ∷ rest)) file → IsDamagedAt call at file
-damaged_there limits done text rest history after range asked legal none call at call_is at_is file decodes =
+damaged_there limits done text rest history notes range asked legal none call at call_is at_is file decodes =
     let split_at = split_blocks first_digest (title_of limits ∷ done) (text ∷ rest) decodes.front decodes.are in
     let long = are_long first_digest (title_of limits ∷ done) split_at.front split_at.are in
     record {
@@ -85,16 +76,16 @@ damaged_there limits done text rest history after range asked legal none call at
       call_is = subst (λ (n : ℕ). ReportsNumber call n) (omega arith) call_is;
       at_is = subst (λ (n : ℕ). ReportsNumber at n) (omega (arith, long)) at_is;
       wrong = inr (record {
-        before = record { limits = limits; calls = asked.calls };
+        before = record { limits = limits; calls = asked.calls; notes = notes };
         accepted = record {
           range = range;
           can = asked.can;
           legal = subst (λ (h : History). IsLegal (begun repository h.first) h.calls) asked.is legal;
         };
-        are = ap (λ (l : List (List ℕ)). title_of limits ∷ l) asked.texts_are;
+        are = record { others = done; title = refl; entries = asked.entries };
         text = text;
         after = split_at.more.0 ++ decodes.end;
         block = block_more (chain first_digest (title_of limits ∷ done)) text split_at.more.0 decodes.end split_at.rest split_at.more.1;
-        none = subst (λ (h : History). ReplaysText h text false after) asked.is none;
+        none = λ entry text_is next. none entry next.can text_is (next_is limits history asked.calls asked.is entry.call next.call);
       });
     }

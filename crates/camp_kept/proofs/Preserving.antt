@@ -11,6 +11,7 @@ use Rattle.camp_kept.proofs.Listing.{legal_alone}
 use Rattle.camp_kept.proofs.Opening.{no_bytes}
 use Rattle.camp_kept.proofs.Refusing.{refusal_unopened}
 use Rattle.camp_kept.proofs.Reopening.{by_fault}
+use Rattle.camp_notes.specs.declared.logs.PlacedNote.{PlacedNote}
 use Rattle.camp_object.specs.Histories.{IsLegal}
 use Rattle.camp_object.specs.Objects.{IsFirst, begun}
 use Rattle.camp_repo.specs.Limits.{Bounds}
@@ -34,10 +35,10 @@ not_of_contents wanted limits (persistence.OtherLimits catches branches) are of 
 not_of_contents wanted limits (persistence.Store fault) are of prevents = of
 
 -- a file from whose texts a repository was recovered is not refused
-pub recovered_unrefused : (wanted : Option Bounds) (file : List ℕ) (reading : Reading) (history : History) → IsDecodedFrom file reading → (texts_of reading.texts.items ≡ [] → reading.tail_len ≤ max_untitled_len)
-    → AreRecovered wanted (texts_of reading.texts.items) history → IsFirst repository history.first → IsLegal (begun repository history.first) history.calls → IsRefusedFile wanted file → ⊥
-recovered_unrefused wanted file reading history is short recovered first legal refused =
+pub recovered_unrefused : (wanted : Option Bounds) (file : List ℕ) (reading : Reading) (history : History) (notes : List PlacedNote) → IsDecodedFrom file reading → (texts_of reading.texts.items ≡ [] → reading.tail_len ≤ max_untitled_len)
+    → AreRecovered wanted (texts_of reading.texts.items) history notes → IsFirst repository history.first → IsLegal (begun repository history.first) history.calls → IsRefusedFile wanted file → ⊥
+recovered_unrefused wanted file reading history notes is short recovered first legal refused =
     not_of_contents wanted history.first.limits refused.why recovered.as_wanted refused.of_contents
-    (by_fault wanted (accepted_of history) file (record { range = recovered.range; can = recovered.can; legal = legal_alone history first legal })
+    (by_fault wanted (accepted_of history notes) file (record { range = recovered.range; can = recovered.can; legal = legal_alone history first legal })
     (record { texts = texts_of reading.texts.items; are = recovered.are; decodes = reading_decodes file reading is; short = short_file file reading is short })
     false refused.why (refusal_unopened false wanted refused.why file refused.refuses))

@@ -1,28 +1,26 @@
 -- Why a file is refused.
-use Rattle.std.proofs.Common.{◌≡◌, ◌≢◌, ◌≤◌, ◌+◌, inl, inr, ℕ, zero, suc, Bool, false, List, [], ◌∷◌, ◌++◌, length, Result, Ok, Err, IfErr, IsErrAnd, IsTrue, Option, None, refl, sym, ◌∙◌, ap, subst, arith, length-append, true≢false, ◌<◌}
+use Rattle.std.proofs.Common.{◌≡◌, ◌≤◌, ◌+◌, inl, inr, ℕ, zero, suc, Bool, List, [], ◌∷◌, ◌++◌, length, Result, Ok, Err, IfErr, IsErrAnd, IsTrue, Option, None, sym, ◌∙◌, ap, subst, arith, length-append, true≢false}
 use Rattle.std.proofs.lemmas.List.{nil_from_length}
-use Rattle.camp_call.specs.declared.calls.Call.{Call}
-use Rattle.camp_kept.specs.Faults.{IsContentFault, IsTitleFault, RefusesFile, RefusesToOpen, fault_of}
-use Rattle.camp_kept.specs.Accepting.{AreAccepted, History, StoreContents, alone, empty_within}
-use Rattle.camp_kept.specs.Persisting.{DecodesToCalls, LeavesRepository, call_texts, max_untitled_len, store_texts}
+use Rattle.camp_kept.specs.Faults.{IsTitleFault, RefusesFile, RefusesToOpen, fault_of}
+use Rattle.camp_kept.specs.Accepting.{AreAccepted, History, StoreContents}
+use Rattle.camp_kept.specs.Entries.{entry_texts}
+use Rattle.camp_kept.specs.Persisting.{DecodesToCalls, max_untitled_len}
 use Rattle.camp_kept.specs.Titles.{CanBeLimits, SaysLimits, title_of}
-use Rattle.camp_kept.specs.Replaying.{AreReplayed, ReplaysText}
+use Rattle.camp_kept.specs.Replaying.{AreReplayed, RefusesText}
 use Rattle.camp_kept.specs.declared.faults.PersistenceFault.{PersistenceFault}
 use Rattle.camp_kept.specs.declared.faults.PersistenceFault.TheVariants as persistence
-use Rattle.camp_kept.specs.declared.repositories.DurableRepository.{DurableRepository}
-use Rattle.camp_kept.proofs.ReplayLemmas.{accepted_call_after, decoded_texts, no_texts}
+use Rattle.camp_kept.proofs.EntryLemmas.{no_texts}
+use Rattle.camp_kept.proofs.ReplayLemmas.{decoded_texts, next_after, next_is}
 use Rattle.camp_kept.proofs.TitleLemmas.{one_title, title_short}
-use Rattle.camp_object.specs.Histories.{IsAccepted}
 use Rattle.camp_repo.specs.Limits.{Bounds}
-use Rattle.camp_repo.specs.Objects.{repository_within}
-use Rattle.camp_store.specs.Blocks.{AllFit, AreBlocks, DecodesTo, IsBlock, IsEnd, blocks, body, chain, first_digest, head}
-use Rattle.camp_store.specs.Logs.{IsAppendFault, IsAppendable, IsMarkFault, LeavesLog, PersistsTexts, end_offset}
-use Rattle.camp_store.specs.Readings.{IsDamaged, IsDecodeFault, IsDecodedFrom, IsReadingFault, ReportsDamage}
+use Rattle.camp_notes.specs.declared.logs.PlacedNote.{PlacedNote}
+use Rattle.camp_store.specs.Blocks.{AllFit, AreBlocks, DecodesTo, IsBlock, blocks, body, chain, first_digest, head}
+use Rattle.camp_store.specs.Logs.{IsAppendFault, IsAppendable, IsMarkFault, PersistsTexts, end_offset}
+use Rattle.camp_store.specs.Readings.{IsDamaged, IsDecodeFault, IsReadingFault, ReportsDamage}
 use Rattle.camp_store.specs.declared.logs.Log.{Log}
-use Rattle.camp_store.specs.declared.readings.Reading.{Reading}
 use Rattle.camp_store.specs.declared.faults.StoreFault.{StoreFault}
 use Rattle.camp_store.specs.declared.faults.StoreFault.TheVariants as store
-use Rattle.camp_store.proofs.BlockLemmas.{block_is_no_end, block_more, block_once, damaged_does_not_decode, decodes_once}
+use Rattle.camp_store.proofs.BlockLemmas.{block_more, block_once, damaged_does_not_decode, decodes_once}
 use Rattle.camp_store.proofs.HeadLemmas.{length-head}
 
 -- a file that is damaged at its start begins with no block
@@ -105,21 +103,21 @@ untitled_unopened usable wanted (persistence.Store store.TooLong) file untitled 
 untitled_unopened usable wanted (persistence.Store (store.Damaged count at)) file untitled = absurd untitled
 
 -- a title has a length, and fits in a file without texts
-title_fits : (limits : Bounds) → CanBeLimits limits → AllFit (store_texts (empty_within limits))
+title_fits : (limits : Bounds) → CanBeLimits limits → AllFit (title_of limits ∷ [])
 title_fits limits range = (omega (arith, title_short limits range), tt)
 
-short_title : (limits : Bounds) → CanBeLimits limits → (digest : List ℕ) → length (blocks digest (store_texts (empty_within limits))) + 1 ≤ max_untitled_len
+short_title : (limits : Bounds) → CanBeLimits limits → (digest : List ℕ) → length (blocks digest (title_of limits ∷ [])) + 1 ≤ max_untitled_len
 short_title limits range digest =
     let title = title_of limits in
     omega (arith, title_short limits range, length-append (body digest title) [], length-append (head digest title) title, length-head digest title)
 
 pub title_ends : {D : Type 0} (seen : D → List ℕ) (may_leave : D → List ℕ → Type 0) (limits : Bounds) → CanBeLimits limits → (log : Log D) → PersistsTexts seen may_leave [] log
-    → end_offset log (store_texts (empty_within limits)) ≤ max_untitled_len
+    → end_offset log (title_of limits ∷ []) ≤ max_untitled_len
 title_ends seen may_leave limits range log persists = omega (arith, short_title limits range log.digest, persists.length_is, ap (λ (l : List ℕ). length l) persists.are)
 
 -- why a title is not appended to a log that has not failed
 pub title_is_not_appended : {D : Type 0} (seen : D → List ℕ) (may_leave : D → List ℕ → Type 0) (is_usable : D → Bool) (limits : Bounds) → CanBeLimits limits → (log : Log D) (why : StoreFault)
-    → PersistsTexts seen may_leave [] log → IsAppendable is_usable log → IsAppendFault is_usable log (store_texts (empty_within limits)) why → IsTitleFault (fault_of why)
+    → PersistsTexts seen may_leave [] log → IsAppendable is_usable log → IsAppendFault is_usable log (title_of limits ∷ []) why → IsTitleFault (fault_of why)
 title_is_not_appended seen may_leave is_usable limits range log store.Memory persists open_ of = tt
 title_is_not_appended seen may_leave is_usable limits range log (store.Disk error) persists open_ of = tt
 title_is_not_appended seen may_leave is_usable limits range log store.TooLong persists open_ (inl unfit) = absurd (unfit (title_fits limits range))
@@ -138,17 +136,16 @@ another_title wanted text texts none file decodes =
       long = λ empty. absurd (no_texts text texts (decodes_once (text ∷ texts) [] file decodes empty));
     }
 
--- a file of texts, one of which is of no call that is accepted there
-pub not_accepted : (limits : Bounds) (done : List (List ℕ)) (text : List ℕ) (rest : List (List ℕ)) (history after : History) → CanBeLimits limits → AreReplayed limits done history
-    → ReplaysText history text false after → (file : List ℕ) → DecodesTo (title_of limits ∷ (done ++ text ∷ rest)) file → (new : Bounds) (stored : StoreContents) → AreAccepted stored → DecodesToCalls new stored file → ⊥
-not_accepted limits done text rest history after range asked none file decodes new stored accepted decoded =
+-- a file of texts, one of which is of no entry that can come there
+pub not_accepted : (limits : Bounds) (done : List (List ℕ)) (text : List ℕ) (rest : List (List ℕ)) (history : History) (notes : List PlacedNote) → CanBeLimits limits → AreReplayed limits done history notes
+    → RefusesText history text → (file : List ℕ) → DecodesTo (title_of limits ∷ (done ++ text ∷ rest)) file → (new : Bounds) (stored : StoreContents) → AreAccepted stored → DecodesToCalls new stored file → ⊥
+not_accepted limits done text rest history notes range asked none file decodes new stored accepted decoded =
     let texts = decoded_texts new (title_of limits) (done ++ text ∷ rest) stored file decodes decoded in
     let same : stored.limits ≡ limits = one_title stored.limits limits accepted.range range texts.0 in
-    let e : call_texts stored.calls ≡ call_texts asked.calls ++ text ∷ rest =
-    texts.1 ∙ ap (λ (l : List (List ℕ)). l ++ text ∷ rest) asked.texts_are in
-    let next = accepted_call_after asked.calls stored text rest asked.can accepted e in
-    subst (λ (h : History). ReplaysText h text false after) asked.is none next.0 next.1 next.2
-    (subst (λ (l : Bounds). IsAccepted (repository_within l) (alone asked.calls) next.0) same next.3)
+    let e : entry_texts texts.1.entries ≡ entry_texts asked.entries.entries ++ text ∷ rest =
+    sym texts.1.texts_are ∙ ap (λ (l : List (List ℕ)). l ++ text ∷ rest) asked.entries.texts_are in
+    let next = next_after limits done history notes asked stored texts.1.entries text rest accepted same texts.1.can texts.1.calls_are e in
+    none next.0 next.2.can next.1 (next_is limits history asked.calls asked.is next.0.call next.2.call)
 
 -- the fault with which a damaged file was reported
 pub refused_from : {T : Type 0} (Known : Type 0) (usable : Bool) (wanted : Option Bounds) (result : Result T PersistenceFault) (why : StoreFault) (file : List ℕ) → IsErrAnd result (λ fault. fault ≡ fault_of why)

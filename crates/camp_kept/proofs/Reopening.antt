@@ -1,53 +1,54 @@
 -- A store of calls is opened with just these.
-use Rattle.std.proofs.Common.{◌≡◌, inl, inr, ℕ, Bool, List, [], ◌∷◌, Option, refl, ap, sym, subst, arith, ◌∙◌}
+use Rattle.std.proofs.Common.{◌≡◌, inl, inr, ℕ, Bool, List, ◌∷◌, Option, ap, sym, subst, arith, ◌∙◌}
 use Rattle.std.specs.List.{AllByRecursion}
 use Rattle.camp_call.specs.declared.calls.Call.{Call}
 use Rattle.camp_kept.specs.Accepting.{AreAccepted, StoreContents}
 use Rattle.camp_kept.specs.TornTails.{HasTornTail}
 use Rattle.camp_kept.specs.Faults.{HasOtherLimits, IsNoStore, IsOpeningFault, RefusesToOpen}
-use Rattle.camp_kept.specs.Persisting.{AreTexts, DecodesToCalls, call_texts}
+use Rattle.camp_kept.specs.Entries.{StoredEntry, calls_of_entries, entry_texts, notes_in_from}
+use Rattle.camp_kept.specs.Persisting.{AreStoreTexts, AreTexts, DecodesToCalls}
 use Rattle.camp_kept.specs.Titles.{AreAsWanted, new_limits, title_of}
 use Rattle.camp_kept.specs.Laws.{StoresAreOpened}
 use Rattle.camp_kept.specs.declared.faults.PersistenceFault.{PersistenceFault}
 use Rattle.camp_kept.specs.declared.faults.PersistenceFault.TheVariants as persistence
 use Rattle.camp_kept.proofs.Committing.{store_decodes}
-use Rattle.camp_kept.proofs.ReplayLemmas.{decoded_texts, first_text, no_texts, other_texts}
+use Rattle.camp_kept.proofs.EntryLemmas.{first_text, no_texts, other_texts, same_entries, texts_without_notes}
+use Rattle.camp_kept.proofs.ReplayLemmas.{decoded_texts}
 use Rattle.camp_kept.proofs.Refusing.{begins_with}
 use Rattle.camp_kept.proofs.TitleLemmas.{one_title}
 use Rattle.camp_repo.specs.Limits.{Bounds}
-use Rattle.camp_script.proofs.SingleCalls.{one_call}
-use Rattle.camp_script.specs.Canonical.{IsScriptCall, call_text}
+use Rattle.camp_script.specs.Canonical.{IsScriptCall}
 use Rattle.camp_store.specs.Blocks.{DecodesTo}
 use Rattle.camp_store.specs.declared.faults.StoreFault.TheVariants as store
 use Rattle.camp_store.proofs.BlockLemmas.{decodes_once}
 
--- calls that a script can contain are determined by their texts
-same_texts : (one two : List Call) → AllByRecursion IsScriptCall one → AllByRecursion IsScriptCall two → call_texts one ≡ call_texts two → one ≡ two
-same_texts [] [] can could same = refl
-same_texts [] (d ∷ two) can could same = absurd (no_texts (call_text d) (call_texts two) (sym same))
-same_texts (c ∷ one) [] can could same = absurd (no_texts (call_text c) (call_texts one) same)
-same_texts (c ∷ one) (d ∷ two) can could same =
-    let first : c ≡ d = one_call c d can.0 could.0 (ap first_text same) in
-    let others : one ≡ two = same_texts one two can.1 could.1 (ap other_texts same) in
-    (λ i. first i ∷ others i)
-
 left_stands : (texts : List (List ℕ)) (file : List ℕ) (count : ℕ) → HasTornTail texts file count → DecodesTo texts file
 left_stands texts file count leaves = record { front = leaves.front; end = leaves.end; split = leaves.split; are = leaves.are; ends = leaves.ends }
 
-same_stored : (one other : StoreContents) → one.limits ≡ other.limits → one.calls ≡ other.calls → one ≡ other
-same_stored one other limits calls = λ k. record { limits = limits k; calls = calls k }
+same_stored : (one other : StoreContents) → one.limits ≡ other.limits → one.calls ≡ other.calls → one.notes ≡ other.notes → one ≡ other
+same_stored one other limits calls notes = λ k. record { limits = limits k; calls = calls k; notes = notes k }
 
-just_these : (new : Bounds) (calls found : StoreContents) (texts : List (List ℕ)) → AreAccepted calls → AreAccepted found → AreTexts new texts calls → AreTexts new texts found → found ≡ calls
-just_these new calls found texts accepted more (inl is) (inl are) =
-    same_stored found calls (one_title found.limits calls.limits more.range accepted.range (ap first_text (sym are ∙ is))) (same_texts found.calls calls.calls more.can accepted.can (ap other_texts (sym are ∙ is)))
-just_these new calls found texts accepted more (inl is) (inr none) = absurd (no_texts _ (call_texts calls.calls) (sym is ∙ none.0))
-just_these new calls found texts accepted more (inr none) (inl are) = absurd (no_texts _ (call_texts found.calls) (sym are ∙ none.0))
-just_these new calls found texts accepted more (inr none) (inr nor) = nor.1 ∙ sym none.1
+-- a store is determined by its texts
+same_contents : (one two : StoreContents) (texts : List (List ℕ)) → AreAccepted one → AreAccepted two → AreStoreTexts one texts → AreStoreTexts two texts → one ≡ two
+same_contents one two texts accepted more is are =
+    let mine = is.entries in
+    let its = are.entries in
+    let limits : one.limits ≡ two.limits = one_title one.limits two.limits accepted.range more.range (ap first_text (sym is.title ∙ are.title)) in
+    let texts_are : entry_texts mine.entries ≡ entry_texts its.entries = sym mine.texts_are ∙ ap other_texts (sym is.title ∙ are.title) ∙ its.texts_are in
+    let same : mine.entries ≡ its.entries =
+    same_entries mine.entries its.entries mine.can its.can (subst (λ (l : List Call). AllByRecursion IsScriptCall l) mine.calls_are accepted.can) (subst (λ (l : List Call). AllByRecursion IsScriptCall l) its.calls_are more.can) texts_are in
+    same_stored one two limits (mine.calls_are ∙ ap calls_of_entries same ∙ sym its.calls_are) (mine.notes_are ∙ ap (λ (l : List StoredEntry). notes_in_from 0 l) same ∙ sym its.notes_are)
+
+just_these : (new : Bounds) (stored found : StoreContents) (texts : List (List ℕ)) → AreAccepted stored → AreAccepted found → AreTexts new texts stored → AreTexts new texts found → found ≡ stored
+just_these new stored found texts accepted more (inl is) (inl are) = same_contents found stored texts more accepted are is
+just_these new stored found texts accepted more (inl is) (inr none) = absurd (no_texts (title_of stored.limits) is.others (sym is.title ∙ none.0))
+just_these new stored found texts accepted more (inr none) (inl are) = absurd (no_texts (title_of found.limits) are.others (sym are.title ∙ none.0))
+just_these new stored found texts accepted more (inr none) (inr nor) = nor.1 ∙ sym none.1
 
 -- a file that decodes to calls is a store, or one being created
 is_some_store : (new : Bounds) (calls : StoreContents) (file : List ℕ) → AreAccepted calls → (decoded : DecodesToCalls new calls file) → AreTexts new decoded.texts calls → IsNoStore file → ⊥
 is_some_store new calls file accepted decoded (inl are) none =
-    let first = begins_with (title_of calls.limits) (call_texts calls.calls) file (subst (λ (ts : List (List ℕ)). DecodesTo ts file) are decoded.decodes) in
+    let first = begins_with (title_of calls.limits) are.others file (subst (λ (ts : List (List ℕ)). DecodesTo ts file) are.title decoded.decodes) in
     none.untitled calls.limits accepted.range first.0 first.1
 is_some_store new calls file accepted decoded (inr no_calls) none =
     absurd (omega (arith, decoded.short no_calls.0, none.long (subst (λ (ts : List (List ℕ)). DecodesTo ts file) no_calls.0 decoded.decodes)))
@@ -76,7 +77,9 @@ by_fault wanted calls file accepted decoded usable (persistence.Store (store.Dam
 
 pub stores_open : StoresAreOpened
 stores_open = record {
-  decodes = λ new calls file is. store_decodes new calls file is.decodes;
+  decodes = λ new stored file is. store_decodes new stored is.texts file is.are is.decodes;
+  without_notes = λ stored texts none are.
+      are.title ∙ ap (λ (l : List (List ℕ)). title_of stored.limits ∷ l) (texts_without_notes 0 stored.calls stored.notes are.others are.entries none);
   opened = λ wanted calls file accepted decoded. record {
     just = λ texts found count are more leaves.
         just_these (new_limits wanted) calls found texts accepted more (subst (λ (ts : List (List ℕ)). AreTexts (new_limits wanted) ts calls) (decodes_once decoded.texts texts file decoded.decodes (left_stands texts file count leaves)) decoded.are) are;

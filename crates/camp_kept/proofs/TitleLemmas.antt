@@ -1,15 +1,15 @@
 -- The titles of stores: how long they are, and that each says its limits.
-use Rattle.std.proofs.Common.{◌≡◌, ◌≢◌, inl, inr, ◌+◌, ◌-◌, ◌<◌, ◌≤◌, ◌^◌, ℕ, Bool, true, false, List, [], ◌∷◌, ◌++◌, length, take, drop, nat_le, ◌&&◌, Ok, Option, None, Some, codes, refl, sym, ◌∙◌, ap, subst, arith, append_assoc, length-append}
+use Rattle.std.proofs.Common.{◌≡◌, ◌≢◌, ◌+◌, ◌-◌, ◌<◌, ◌≤◌, ◌^◌, ℕ, Bool, true, false, List, [], ◌∷◌, ◌++◌, length, take, drop, nat_le, ◌&&◌, Ok, Option, None, Some, codes, refl, sym, ◌∙◌, ap, arith, append_assoc, length-append}
 use Rattle.std.specs.Fmt.{decimal}
 use Rattle.std.specs.List.{join_with_byte, list_all}
 use Rattle.std.specs.Option.{option_and_then}
 use Rattle.std.proofs.lemmas.Bool.{and_from, and_parts, cond-false, cond-true, eqb-true, le-leb}
 use Rattle.std.proofs.lemmas.Fmt.{length-decimal-le}
 use Rattle.std.proofs.lemmas.List.{take_at}
-use Rattle.camp_kept.specs.Titles.{CanBeLimits, is_default, limits_among, limits_line, title_of, title_with}
+use Rattle.camp_kept.specs.Titles.{CanBeLimits, is_default, limits_among, title_of, title_with}
 use Rattle.camp_repo.specs.Limits.{Bounds, bounded, default_bounds}
 use Rattle.camp_repo.proofs.SameLimits.{same_bounds}
-use Rattle.camp_script.proofs.CanonicalLines.{AreWords, is_word, words_joined}
+use Rattle.camp_script.proofs.CanonicalLines.{AreWords, words_joined}
 use Rattle.camp_script.proofs.CanonicalNumbers.{decimal_is_line_number, decimal_is_word, value_of-decimal}
 use Rattle.camp_script.specs.Lines.{words_of}
 use Rattle.camp_base.specs.Signs.{is_between, is_digit}

@@ -1,19 +1,17 @@
 -- Why a file is not a store, is not opened, or why calls are not persisted.
 use Rattle.std.specs.Prelude.{◌≡◌, ◌⊎◌, ◌<◌, ◌≤◌, ◌^◌, ℕ, zero, suc, Bool, false, List, [], ◌∷◌, ◌++◌, length, Option, Result, MatchResult}
-use Rattle.camp_call.specs.declared.calls.Call.{Call}
-use Rattle.camp_kept.specs.Accepting.{AreAccepted, StoreContents, alone}
-use Rattle.camp_kept.specs.Persisting.{DecodesToCalls, HasFewerCalls, max_untitled_len, store_texts, waiting_texts}
+use Rattle.camp_kept.specs.Accepting.{AreAccepted, StoreContents}
+use Rattle.camp_kept.specs.Entries.{StoredEntry, text_of_stored}
+use Rattle.camp_kept.specs.Persisting.{AreStoreTexts, AreWaitingTexts, DecodesToCalls, HasFewerCalls, HasMisplacedNotes, max_untitled_len}
+use Rattle.camp_kept.specs.Replaying.{CanBeNextEntry}
 use Rattle.camp_kept.specs.Titles.{AreAsWanted, CanBeLimits, title_of}
 use Rattle.camp_kept.specs.declared.faults.PersistenceFault.{PersistenceFault}
 use Rattle.camp_kept.specs.declared.faults.PersistenceFault.TheVariants as persistence
 use Rattle.camp_kept.specs.declared.repositories.DurableRepository.{DurableRepository}
-use Rattle.camp_object.specs.Histories.{IsAccepted}
 use Rattle.camp_repo.specs.Limits.{Bounds}
-use Rattle.camp_repo.specs.Objects.{repository_within}
-use Rattle.camp_script.specs.Canonical.{IsScriptCall, call_text}
 use Rattle.camp_store.specs.Blocks.{AreBlocks, DecodesTo, IsBlock, IsEnd, chain, first_digest}
 use Rattle.camp_store.specs.Counting.{ReportsFault}
-use Rattle.camp_store.specs.Logs.{IsAppendFault}
+use Rattle.camp_store.specs.Logs.{IsAppendFault, IsAppendable}
 use Rattle.camp_store.specs.declared.faults.StoreFault.{StoreFault}
 use Rattle.camp_store.specs.declared.faults.StoreFault.TheVariants as store
 
@@ -37,22 +35,23 @@ pub record IsNoBlock (texts : List (List ℕ)) (rest : List ℕ) : Type 0 where
   pub no_end : ¬ (IsEnd rest)
   pub no_block : (text after : List ℕ) → ¬ (IsBlock (chain first_digest texts) text after rest)
 
--- after a store of calls there is at this offset the block of a text that decodes to no call accepted after them
+-- after a store of calls and notes there is at this offset the block of a text that decodes to no entry which can come
+-- after them
 pub record IsBlockOfNoCall (texts : List (List ℕ)) (rest : List ℕ) : Type 0 where
   pub before : StoreContents
   pub accepted : AreAccepted before
-  pub are : texts ≡ store_texts before
+  pub are : AreStoreTexts before texts
   pub text : List ℕ
   pub after : List ℕ
   pub block : IsBlock (chain first_digest texts) text after rest
-  pub none : (call : Call) → IsScriptCall call → call_text call ≡ text → ¬ (IsAccepted (repository_within before.limits) (alone before.calls) call)
+  pub none : (entry : StoredEntry) → text_of_stored entry ≡ text → ¬ (CanBeNextEntry before.limits before.calls entry)
 
 -- the reported number is this one, or this one does not fit in 64 bits
 abbrev pub ReportsNumber : ℕ → ℕ → Type 0
 ReportsNumber reported number = (reported ≡ number) ⊎ (2 ^ 64 ≤ number)
 
--- a file is damaged at the call of this number, counted from 1, and at the offset `at`: the blocks of the title and of
--- the calls before it end there, and no block of an accepted call follows
+-- a file is damaged at the entry of this number, counted from 1, and at the offset `at`: the blocks of the title and of
+-- the entries before it end there, and no block follows of an entry that can come after them
 pub record IsDamagedAt (call at : ℕ) (file : List ℕ) : Type 0 where
   pub texts : List (List ℕ)
   pub some : 0 < length texts
@@ -71,8 +70,8 @@ pub record HasOtherLimits (wanted : Option Bounds) (limits : Bounds) (file : Lis
   pub decodes : DecodesTo (title_of limits ∷ texts) file
   pub unwanted : ¬ (AreAsWanted wanted limits)
 
--- why the bytes of a file are refused. NoStore: they are not a store. Damaged: at this call they do not decode to a
--- call accepted after those before it. OtherLimits: they are a store, but not with the wanted limits. Memory: memory
+-- why the bytes of a file are refused. NoStore: they are not a store. Damaged: at this entry they do not decode to one
+-- that can come after those before it. OtherLimits: they are a store, but not with the wanted limits. Memory: memory
 -- ran out.
 abbrev pub RefusesFile : Option Bounds → PersistenceFault → List ℕ → Type 0
 RefusesFile wanted persistence.Memory file = Unit {0}
@@ -151,8 +150,8 @@ IsTitleFault (persistence.Store store.TooLong) = ⊥
 IsTitleFault (persistence.Store (store.Damaged count at)) = ⊥
 
 -- why calls are not persisted: memory ran out, the disk has failed, now or before, a text or the file would be too
--- long, or the book has fewer calls than were persisted. That a file is not a store, or is damaged, is not reported
--- here
+-- long, there are fewer calls or notes than were persisted, or a note is misplaced. That a file is not a store, or is
+-- damaged, is not reported here
 abbrev pub IsCommitFault : PersistenceFault → Type 0
 IsCommitFault persistence.Memory = Unit {0}
 IsCommitFault persistence.NoStore = ⊥
@@ -164,14 +163,20 @@ IsCommitFault (persistence.Store store.TooLong) = Unit {0}
 IsCommitFault (persistence.Store (store.Damaged count at)) = ⊥
 IsCommitFault (persistence.Store store.Failed) = Unit {0}
 
--- when these faults are reported. Failed: the book has fewer calls than are known to be durable, an earlier commit has
--- failed at the disk, or the disk may not be used; TooLong: the text of a call that is not known to be durable does not
--- fit in a block, or the file would have 2^64 bytes or more
+-- the texts of the calls and notes that are not known to be durable are too long: that of an entry does not fit in a block,
+-- or the file would have 2^64 bytes or more
+pub record HasLongTexts {D : Type 0} (is_usable : D → Bool) (repository : DurableRepository D) : Type 0 where
+  pub texts : List (List ℕ)
+  pub are : AreWaitingTexts repository texts
+  pub long : IsAppendFault is_usable repository.log texts store.TooLong
+
+-- when these faults are reported. Failed: there are fewer calls or notes than are known to be durable, a note is
+-- misplaced, an earlier commit has failed at the disk, or the disk may not be used; TooLong: the texts of what is not
+-- known to be durable are too long
 abbrev pub RefusesToCommit : {D : Type 0} → (D → Bool) → DurableRepository D → PersistenceFault → Type 0
 RefusesToCommit is_usable repository (persistence.Store store.Failed) =
-    HasFewerCalls repository ⊎ IsAppendFault is_usable repository.log (waiting_texts repository) store.Failed
-RefusesToCommit is_usable repository (persistence.Store store.TooLong) =
-    IsAppendFault is_usable repository.log (waiting_texts repository) store.TooLong
+    HasFewerCalls repository ⊎ (HasMisplacedNotes repository ⊎ ¬ (IsAppendable is_usable repository.log))
+RefusesToCommit is_usable repository (persistence.Store store.TooLong) = HasLongTexts is_usable repository
 RefusesToCommit is_usable repository (persistence.Store store.Memory) = ⊥
 RefusesToCommit is_usable repository (persistence.Store (store.Disk error)) = Unit {0}
 RefusesToCommit is_usable repository (persistence.Store (store.Damaged count at)) = ⊥

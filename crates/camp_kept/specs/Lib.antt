@@ -1,7 +1,9 @@
 pub mod Accepting
+pub mod Entries
 pub mod TornTails
 pub mod Faults
 pub mod Openings
+pub mod Parsing
 pub mod Persisting
 pub mod Laws
 pub mod Replaying

@@ -22,13 +22,14 @@ pub record HasTornTail (texts : List (List ℕ)) (file : List ℕ) (count : ℕ)
   -- if a file has no text, it has few bytes
   pub short : texts ≡ [] → length file ≤ max_untitled_len
 
--- the result of an inspection: the number of calls in the file, each accepted after those before it, the digest of its
--- texts, and the length of its torn tail
+-- the result of an inspection: the numbers of calls in the file, each accepted after those before it, and of notes, the
+-- digest of its texts, and the length of its torn tail
 pub record IsInspection (file : List ℕ) (found : Inspection) : Type 0 where
   pub stored : StoreContents
   pub accepted : AreAccepted stored
   pub texts : List (List ℕ)
   pub are : AreTexts default_bounds texts stored
   pub count_is : found.calls ≡ length stored.calls
+  pub notes_are : found.notes ≡ length stored.notes
   pub digest_is : found.digest ≡ chain first_digest texts
   pub leaves : HasTornTail texts file found.torn_tail_len

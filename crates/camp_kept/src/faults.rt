@@ -15,8 +15,8 @@ pub enum PersistenceFault {
     /// The file exists but is not a store.
     #[error("no store of camp")]
     NoStore,
-    /// At this offset there is no block of a call that is accepted after those before it; `call` is its number, counted
-    /// from 1.
+    /// At this offset there is no block of a call that is accepted after those before it, or of notes; `call` is its
+    /// number, counted from 1, where notes without a call after them in their block count as one.
     #[error("damaged at call {call}, byte {at}")]
     Damaged { call: usize, at: usize },
     /// The store has these limits, which are not the wanted ones.

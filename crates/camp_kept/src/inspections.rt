@@ -13,6 +13,8 @@ use std::alloc::Global;
 pub struct Inspection {
     /// The number of calls.
     pub calls: usize,
+    /// The number of notes.
+    pub notes: usize,
     /// The digest of their texts.
     pub digest: Digest,
     /// The length of the torn tail: the bytes at the end that do not count.
@@ -25,9 +27,10 @@ pub fn inspect(alloc: Global, bytes: &[u8]) -> Result<Inspection, PersistenceFau
     ensures refused { IfErr result (λ why. RefusesFile None why bytes.now) }
 {
     let reading = decode(alloc, bytes)?;
-    let book = replay_reading(alloc, &reading, &None)?;
+    let (book, notes) = replay_reading(alloc, &reading, &None)?;
     Ok(Inspection {
         calls: book.history().len(),
+        notes: notes.placed().len(),
         digest: reading.digest,
         torn_tail_len: torn_tail_len(&reading),
     })

@@ -1,6 +1,7 @@
-//! The repository whose accepted calls are persisted in a file.
+//! The repository whose accepted calls and notes are persisted in a file.
 #![tactic(auto)]
 
+mod entries;
 mod faults;
 mod inspections;
 mod laws;
@@ -10,6 +11,7 @@ mod repositories;
 mod texts;
 mod titles;
 
+pub use camp_notes::{NoteLog, PlacedNote};
 pub use camp_repo::{Book, Limits, State};
 pub use camp_store::Disk;
 pub use faults::PersistenceFault;

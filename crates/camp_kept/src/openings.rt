@@ -1,13 +1,13 @@
 //! Opening a store.
-ghost use Rattle.std.specs.Prelude.{◌≡◌, ◌≤◌, [], List, Option, ℕ, length, IfErr, IfOk, IsTrue};
-ghost use Rattle.camp_kept.specs.Accepting.{StoreContents, empty_within};
+ghost use Rattle.std.specs.Prelude.{◌≡◌, ◌≤◌, ◌∷◌, [], List, Option, ℕ, length, IfErr, IfOk, IsTrue};
+ghost use Rattle.camp_kept.specs.Accepting.{empty_within};
 ghost use Rattle.camp_kept.specs.TornTails.{HasTornTail};
-ghost use Rattle.camp_kept.specs.Openings.{LeavesTexts};
+ghost use Rattle.camp_kept.specs.Openings.{LeavesTexts, PersistsTitled};
 ghost use Rattle.camp_kept.specs.Faults.{CountsDiskFaults, IsContentFault, IsNoDiskFault, IsTitleFault, RefusesFile, RefusesToOpen, ReportsDiskFault};
-ghost use Rattle.camp_kept.specs.Persisting.{AreTexts, DecodesToCalls, max_untitled_len, store_texts};
+ghost use Rattle.camp_kept.specs.Persisting.{DecodesToCalls, max_untitled_len};
 ghost use Rattle.camp_kept.specs.declared.faults.PersistenceFault.TheVariants as fault;
 ghost use Rattle.camp_kept.specs.Replaying.{AreRecovered};
-ghost use Rattle.camp_kept.specs.Titles.{CanBeLimits};
+ghost use Rattle.camp_kept.specs.Titles.{CanBeLimits, title_of};
 ghost use Rattle.camp_repo.specs.Limits.{Bounds};
 ghost use Rattle.camp_store.specs.Logs.{IsAppendable, PersistsTexts, disk_of, may_append, texts_of};
 ghost use Rattle.camp_store.specs.Readings.{IsDecodedFrom};
@@ -16,18 +16,19 @@ ghost use Rattle.sqlite_disk.specs.Disk.{Only};
 use crate::replays::replay;
 use crate::titles::render_title;
 use crate::{MAX_UNTITLED_LEN, PersistenceFault};
+use camp_notes::NoteLog;
 use camp_repo::{Book, Limits, State};
 use camp_store::{Disk, Log, Reading, read};
 use std::alloc::Global;
 
-/// Reads what a disk persists, and replays the calls. If limits are wanted, the store has to have them.
+/// Reads what a disk persists, and replays the calls and notes. If limits are wanted, the store has to have them.
 pub(crate) fn recover<D: Disk>(
     alloc: Global,
     disk: &mut D,
     wanted: &Option<Limits>,
-) -> Result<(Reading, Book<State>), PersistenceFault>
+) -> Result<(Reading, Book<State>, NoteLog), PersistenceFault>
     ensures reading { IfOk result (λ r. IsTrue (D.Disk.is_clean disk.new) → IsDecodedFrom (D.Disk.seen disk.old) r.0) }
-    ensures recovered { IfOk result (λ r. AreRecovered wanted.now (texts_of r.0.texts.items) r.1) }
+    ensures recovered { IfOk result (λ r. AreRecovered wanted.now (texts_of r.0.texts.items) r.1 r.2) }
     ensures refused { IfErr result (λ why. IsTrue (D.Disk.is_clean disk.new) → RefusesToOpen (D.Disk.is_usable disk.old) wanted.now why (D.Disk.seen disk.old)) }
     ensures short { IfOk result (λ r. texts_of r.0.texts.items ≡ [] → r.0.tail_len ≤ max_untitled_len) }
     ensures usable { IfOk result (λ _. IsTrue (D.Disk.is_usable disk.new)) }
@@ -38,17 +39,17 @@ pub(crate) fn recover<D: Disk>(
     ensures faults { CountsDiskFaults result (D.Disk.faults disk.old) (D.Disk.faults disk.new) }
 {
     let reading = read(alloc, disk)?;
-    let book = replay_reading(alloc, &reading, wanted)?;
-    Ok((reading, book))
+    let (book, notes) = replay_reading(alloc, &reading, wanted)?;
+    Ok((reading, book, notes))
 }
 
-/// Replays the calls whose texts were read. If limits are wanted, the store has to have them.
+/// Replays the calls and notes whose texts were read. If limits are wanted, the store has to have them.
 pub(crate) fn replay_reading(
     alloc: Global,
     reading: &Reading,
     wanted: &Option<Limits>,
-) -> Result<Book<State>, PersistenceFault>
-    ensures recovered { IfOk result (AreRecovered wanted.now (texts_of reading.now.texts.items)) }
+) -> Result<(Book<State>, NoteLog), PersistenceFault>
+    ensures recovered { IfOk result (λ r. AreRecovered wanted.now (texts_of reading.now.texts.items) r.0 r.1) }
     ensures refused { IfErr result (λ why. (file : List ℕ) → IsDecodedFrom file reading.now → RefusesFile wanted.now why file) }
     ensures short { IfOk result (λ _. texts_of reading.now.texts.items ≡ [] → reading.now.tail_len ≤ max_untitled_len) }
     ensures not_disk { IfErr result IsNoDiskFault }
@@ -72,15 +73,15 @@ pub(crate) fn torn_tail_len(reading: &Reading) -> usize
 }
 
 /// Appends the title of a new store with these limits, unless there is a text already.
+#[tactic(auto, using(crate::proofs::Opening::titled_already))]
 pub(crate) fn ensure_title<D: Disk>(
     alloc: Global,
     log: Log<D>,
     texts: &[Vec<u8>],
     limits: Limits,
 ) -> Result<Log<D>, (PersistenceFault, D)>
-    ensures persists { IfOk result (λ new. (stored : StoreContents) → AreTexts limits (texts_of texts.now) stored
-        → PersistsTexts D.Disk.seen D.Disk.may_leave (texts_of texts.now) log
-        → PersistsTexts D.Disk.seen D.Disk.may_leave (store_texts stored) new) }
+    ensures persists { IfOk result (λ new. PersistsTexts D.Disk.seen D.Disk.may_leave (texts_of texts.now) log
+        → PersistsTitled D.Disk.seen D.Disk.may_leave limits (texts_of texts.now) new) }
     ensures crash { IfErr result (λ e. LeavesTexts D.Disk.seen D.Disk.may_leave limits (texts_of texts.now) log e.1) }
     ensures clean { IfOk result (λ new. D.Disk.is_clean (disk_of new) ≡ D.Disk.is_clean (disk_of log)) }
     ensures clean_err { IfErr result (λ e. D.Disk.is_clean e.1 ≡ D.Disk.is_clean (disk_of log)) }
@@ -96,13 +97,14 @@ pub(crate) fn ensure_title<D: Disk>(
     append_title(alloc, log, limits)
 }
 
+#[tactic(auto, using(crate::proofs::Opening::titled))]
 fn append_title<D: Disk>(
     alloc: Global,
     mut log: Log<D>,
     limits: Limits,
 ) -> Result<Log<D>, (PersistenceFault, D)>
     ensures persists { IfOk result (λ new. PersistsTexts D.Disk.seen D.Disk.may_leave [] log
-        → PersistsTexts D.Disk.seen D.Disk.may_leave (store_texts (empty_within limits)) new) }
+        → PersistsTitled D.Disk.seen D.Disk.may_leave limits [] new) }
     ensures crash { IfErr result (λ e. PersistsTexts D.Disk.seen D.Disk.may_leave [] log
         → length (D.Disk.seen (disk_of log)) ≤ max_untitled_len → (c : List ℕ) → D.Disk.may_leave e.1 c → DecodesToCalls limits (empty_within limits) c) }
     ensures clean { IfOk result (λ new. D.Disk.is_clean (disk_of new) ≡ D.Disk.is_clean (disk_of log)) }
@@ -123,7 +125,7 @@ fn append_title<D: Disk>(
 }
 
 fn title_texts(alloc: Global, limits: Limits) -> Result<Vec<Vec<u8>>, PersistenceFault>
-    ensures title { IfOk result (λ texts. texts_of texts.items ≡ store_texts (empty_within limits)) }
+    ensures title { IfOk result (λ texts. texts_of texts.items ≡ title_of limits ∷ []) }
     ensures range { IfOk result (λ _. CanBeLimits limits) }
     ensures memory { IfErr result (λ why. why ≡ fault.Memory) }
 {

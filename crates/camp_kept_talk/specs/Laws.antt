@@ -6,7 +6,7 @@ use Rattle.camp_kept.specs.Faults.{IsCommitFault, ReportsDiskFault}
 use Rattle.camp_kept.specs.Persisting.{accepted_by, disk_in, may_commit}
 use Rattle.camp_kept.specs.declared.faults.PersistenceFault.{PersistenceFault}
 use Rattle.camp_kept.specs.declared.repositories.DurableRepository.{DurableRepository}
-use Rattle.camp_kept_talk.specs.Conversations.{CommitsStore, LeavesDurable, MayLeave, PersistsFirst, SharesStore, stopped_fault}
+use Rattle.camp_kept_talk.specs.Conversations.{CanCommitNotes, CommitsStore, LeavesDurable, MayLeave, PersistsFirst, SharesStore, stopped_fault}
 use Rattle.camp_talk.specs.Engine.Runs.{RunsAll, StopsAfterGroup, durable_after}
 use Rattle.camp_talk.specs.declared.engine.backends.Backend as backends
 use Rattle.camp_talk.specs.declared.engine.framings.Framing as framings
@@ -22,8 +22,8 @@ ReportsFaultOf other old new = new ≡ old
 
 module _ {D : Type 0} (seen : D → List ℕ) (may_leave : D → List ℕ → Type 0) (faults : D → ℕ) (is_clean : D → Bool) where
   module _ {B Q A E : Type 0} (backend : backends.Ghosts B Q A E PersistenceFault) (kept_of : B → DurableRepository D) where
-    -- a backend is over a durable repository: its requests are executed on the book alone, and its commits are those of
-    -- the repository
+    -- a backend is over a durable repository: its requests are executed on the book and the notes alone, and its commits are
+    -- those of the repository
     pub record IsOverStore : Type 0 where
       pub executes : (before : B) (request : Q) (result : Result A E) (after : B) → backend.executes before request result after → SharesStore (kept_of before) (kept_of after)
       pub commits : (before : B) (result : Result (Unit {0}) PersistenceFault) (after : B) → backend.commits before result after
@@ -32,12 +32,14 @@ module _ {D : Type 0} (seen : D → List ℕ) (may_leave : D → List ℕ → Ty
     module _ {F H : Type 0} (framing : framings.Ghosts F Q A H) (limits : GroupLimits) (first : B) (from : F) (old : Option (List ℕ)) where
       -- the promises of a conversation. If no commit was possible at its start, nothing is written and the disk is not
       -- used, and its fault is that of a commit. A disk fault is reported only if a disk call has failed. The disk has given
-      -- a wrong answer only if it had before.
+      -- a wrong answer only if it had before. If the notes could be committed, they still can: no commit fails because of
+      -- where a note was given.
       pub record KeepsPromises (result : Result (Unit {0}) (Stop PersistenceFault E H)) (last : B) (to : F) (new : Option (List ℕ)) : Type 0 where
         pub stopped : may_commit (kept_of first) ≡ false
             → (result ≡ Err (stop.Commit stopped_fault)) × Keeps old new × SharesStore (kept_of first) (kept_of last)
         pub counts : ReportsFaultOf result (faults (disk_in (kept_of first))) (faults (disk_in (kept_of last)))
         pub clean : is_clean (disk_in (kept_of last)) ≡ is_clean (disk_in (kept_of first))
+        pub place : CanCommitNotes (kept_of first) → CanCommitNotes (kept_of last)
 
       -- after a commit that has failed, whatever a crash leaves is a store of the calls that were accepted before the last
       -- group or, if it is the first one, of those that were durable at first; or of all accepted calls. The former are

@@ -1,8 +1,8 @@
-//! Conversations over a durable repository. Each commit persists all accepted calls.
-ghost use Rattle.std.specs.Prelude.{◌≡◌, ◌-◌, length};
+//! Conversations over a durable repository. Each commit persists all accepted calls and all notes.
+ghost use Rattle.std.specs.Prelude.{◌≡◌};
 ghost use Rattle.camp_kept.specs.Accepting.{StoreContents};
-ghost use Rattle.camp_kept.specs.Persisting.{accepted_by, durable_count_in};
-ghost use Rattle.camp_kept_talk.specs.Conversations.{CommitsStore, PersistsFirst, SharesStore};
+ghost use Rattle.camp_kept.specs.Persisting.{accepted_by};
+ghost use Rattle.camp_kept_talk.specs.Conversations.{CommitsStore, PersistsFirst, SharesStore, recorded_by, waiting_in};
 ghost use Rattle.camp_talk.specs.Diagnostics.{no_diagnostic};
 ghost use Rattle.camp_talk.specs.Engine.Commands.{AnswersFrame, ExecutesCommand};
 
@@ -10,7 +10,7 @@ use camp_kept::{Disk, DurableRepository, PersistenceFault};
 use camp_talk::{Backend, Command, Diagnostic, Response, TalkFault, answer_alone, execute_command};
 use std::alloc::Global;
 
-/// A conversation over a durable repository: commands are executed at seat 0.
+/// A conversation over a durable repository: calls are executed at seat 0.
 #[derive(Drop)]
 pub struct StoredConversation<D: Disk> {
     alloc: Global,
@@ -51,18 +51,19 @@ impl<D: Disk> Backend<Command, Response> for StoredConversation<D> {
     ghost persists = { λ stored it. PersistsFirst D.Disk.seen D.Disk.may_leave stored it.kept };
 
     ghost executes = { λ before command result after. SharesStore before.kept after.kept × ExecutesCommand
-        (record { history = before.kept.book; lines = before.lines; diagnostic = before.diagnostic }) command
-        result (record { history = after.kept.book; lines = after.lines; diagnostic = after.diagnostic }) };
+        (record { recorded = recorded_by before.kept; lines = before.lines; diagnostic = before.diagnostic }) command
+        result (record { recorded = recorded_by after.kept; lines = after.lines; diagnostic = after.diagnostic }) };
 
     ghost commits = { λ before result after. CommitsStore D.Disk.seen D.Disk.may_leave D.Disk.faults D.Disk.is_clean before.kept result after.kept
         × (after.lines ≡ before.lines) × (after.diagnostic ≡ before.diagnostic) };
 
-    ghost waiting = { λ it. length (accepted_by it.kept).calls - durable_count_in it.kept };
+    ghost waiting = { λ it. waiting_in it.kept };
 
     fn execute(&mut self, command: Command) -> Result<Response, TalkFault> {
         execute_command(
             self.alloc,
             &mut self.kept.book,
+            &mut self.kept.notes,
             &mut self.lines,
             &mut self.diagnostic,
             command,
@@ -82,7 +83,7 @@ impl<D: Disk> Backend<Command, Response> for StoredConversation<D> {
     ghost commit_persists = { λ before after commits stored durable. commit_persists D.Disk.seen D.Disk.may_leave D.Disk.faults D.Disk.is_clean before.kept after.kept commits.0 stored durable };
 }
 
-/// A conversation in frames over a durable repository: requests are executed at seat 0.
+/// A conversation in frames over a durable repository: calls are executed at seat 0.
 #[derive(Drop)]
 pub struct FramedStore<D: Disk> {
     alloc: Global,
@@ -111,14 +112,19 @@ impl<D: Disk> Backend<Vec<u8>, Vec<u8>> for FramedStore<D> {
 
     ghost persists = { λ stored it. PersistsFirst D.Disk.seen D.Disk.may_leave stored it.kept };
 
-    ghost executes = { λ before request result after. SharesStore before.kept after.kept × AnswersFrame before.kept.book request.items result after.kept.book };
+    ghost executes = { λ before request result after. SharesStore before.kept after.kept × AnswersFrame (recorded_by before.kept) request.items result (recorded_by after.kept) };
 
     ghost commits = { λ before result after. CommitsStore D.Disk.seen D.Disk.may_leave D.Disk.faults D.Disk.is_clean before.kept result after.kept };
 
-    ghost waiting = { λ it. length (accepted_by it.kept).calls - durable_count_in it.kept };
+    ghost waiting = { λ it. waiting_in it.kept };
 
     fn execute(&mut self, request: Vec<u8>) -> Result<Vec<u8>, TalkFault> {
-        answer_alone(self.alloc, &mut self.kept.book, &request)
+        answer_alone(
+            self.alloc,
+            &mut self.kept.book,
+            &mut self.kept.notes,
+            &request,
+        )
     }
 
     fn commit(&mut self) -> Result<(), PersistenceFault> {
@@ -134,7 +140,7 @@ impl<D: Disk> Backend<Vec<u8>, Vec<u8>> for FramedStore<D> {
     ghost commit_persists = { λ before after commits stored durable. commit_persists D.Disk.seen D.Disk.may_leave D.Disk.faults D.Disk.is_clean before.kept after.kept commits stored durable };
 }
 
-// Persists all accepted calls.
+// Persists all accepted calls and all notes.
 fn commit_store<D: Disk>(
     alloc: Global,
     kept: &mut DurableRepository<D>,

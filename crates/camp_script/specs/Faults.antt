@@ -6,6 +6,7 @@ use Rattle.camp_script.specs.declared.faults.FaultKind.TheVariants.{UnknownComma
 use Rattle.camp_script.specs.declared.faults.FaultKind.TheVariants.{BadPath, BadNumber, BadLine, BadEdit}
 use Rattle.camp_script.specs.declared.faults.FaultKind.TheVariants.{EditNotEnded, TooManyClients, TooManyCommands}
 use Rattle.camp_script.specs.declared.faults.FaultKind.TheVariants.{BadGroup, GroupNotEnded}
+use Rattle.camp_script.specs.declared.faults.FaultKind.TheVariants.{BadNote, NoteNotEnded, NoteTooLong}
 use Rattle.camp_script.specs.declared.faults.LineFault.{LineFault}
 use Rattle.camp_script.specs.declared.faults.ScriptFault.{ScriptFault}
 use Rattle.camp_script.specs.declared.faults.ScriptFault.TheVariants.{Line, Memory}
@@ -26,6 +27,9 @@ kind_words TooManyClients = codes "too many clients"
 kind_words TooManyCommands = codes "too many commands"
 kind_words BadGroup = codes "bad group"
 kind_words GroupNotEnded = codes "group not ended"
+kind_words BadNote = codes "bad note"
+kind_words NoteNotEnded = codes "note not ended"
+kind_words NoteTooLong = codes "note too long"
 
 -- the words for a fault of a line: its number and the kind
 abbrev pub line_words : LineFault → List ℕ

@@ -23,6 +23,10 @@ pub enum FaultKind {
     TooManyCommands,
     BadGroup,
     GroupNotEnded,
+    /// A line of the body of a note does not begin with `+`, or there is none.
+    BadNote,
+    NoteNotEnded,
+    NoteTooLong,
 }
 
 impl FaultKind {
@@ -43,6 +47,9 @@ impl FaultKind {
             FaultKind::TooManyCommands => "too many commands",
             FaultKind::BadGroup => "bad group",
             FaultKind::GroupNotEnded => "group not ended",
+            FaultKind::BadNote => "bad note",
+            FaultKind::NoteNotEnded => "note not ended",
+            FaultKind::NoteTooLong => "note too long",
         }
     }
 }

@@ -18,7 +18,9 @@ mod words;
 use camp_base::Name;
 use camp_git::export;
 use camp_options::{WordsFault, command_line, read_limits};
-use camp_talk::{Book, Conversation, FramedConversation, Limits, State, TalkFault, load, new_book};
+use camp_talk::{
+    Book, Conversation, FramedConversation, Limits, NoteLog, State, TalkFault, load, new_book,
+};
 use conversations::{Ending, ONE_BY_ONE, talk_in_frames, talk_in_lines};
 use std::fs::{self, File};
 use std::io::{BufReader, Read};
@@ -52,10 +54,10 @@ fn hold<'a>(rt: &HostRuntime, words: &'a [String]) -> Result<(), Stop<'a>> {
         return hold_stored(rt, store, limits_of(&wish)?, &wish);
     }
     let limits = limits_of(&wish)?.unwrap_or(Limits::default());
-    let book = loaded(rt, limits, &wish.files)?;
+    let (book, notes) = loaded(rt, limits, &wish.files)?;
     match wish.export {
         Some(branch) => export_branch(rt, &book, branch),
-        None => converse(rt, book, wish.form),
+        None => converse(rt, book, notes, wish.form),
     }
 }
 
@@ -72,21 +74,27 @@ fn loaded<'a>(
     rt: &HostRuntime,
     limits: Limits,
     files: &[&'a str],
-) -> Result<Book<State>, Stop<'a>> {
+) -> Result<(Book<State>, NoteLog), Stop<'a>> {
     let mut book = new_book(rt.alloc(), limits)?;
+    let mut notes = NoteLog::new(rt.alloc());
     for file in files {
-        load_file(rt, &mut book, *file)?;
+        load_file(rt, &mut book, &mut notes, *file)?;
     }
-    Ok(book)
+    Ok((book, notes))
 }
 
 // Holds a conversation over a repository in memory.
-fn converse<'a>(rt: &HostRuntime, book: Book<State>, form: Form) -> Result<(), Stop<'a>> {
+fn converse<'a>(
+    rt: &HostRuntime,
+    book: Book<State>,
+    notes: NoteLog,
+    form: Form,
+) -> Result<(), Stop<'a>> {
     let ended = match form {
-        Form::Frames => talk_in_frames(rt, &mut FramedConversation::new(rt.alloc(), book)),
+        Form::Frames => talk_in_frames(rt, &mut FramedConversation::new(rt.alloc(), book, notes)),
         _ => talk_in_lines(
             rt,
-            &mut Conversation::new(rt.alloc(), book),
+            &mut Conversation::new(rt.alloc(), book, notes),
             ONE_BY_ONE,
             form,
         ),
@@ -113,13 +121,18 @@ fn export_branch<'a>(
     }
 }
 
-fn load_file<'a>(rt: &HostRuntime, book: &mut Book<State>, file: &'a str) -> Result<(), Stop<'a>> {
+fn load_file<'a>(
+    rt: &HostRuntime,
+    book: &mut Book<State>,
+    notes: &mut NoteLog,
+    file: &'a str,
+) -> Result<(), Stop<'a>> {
     let opened: File = match fs::open(rt, file) {
         Ok(opened) => opened,
         Err(error) => return Err(Stop::Open(file, error)),
     };
     let mut reader = buffered(rt, opened)?;
-    match load(rt.alloc(), book, &mut reader) {
+    match load(rt.alloc(), book, notes, &mut reader) {
         Ok(()) => Ok(()),
         Err(fault) => Err(Stop::Load(file, fault)),
     }

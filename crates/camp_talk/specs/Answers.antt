@@ -12,8 +12,9 @@ use Rattle.camp_script.specs.Texts.{reply_text}
 use Rattle.camp_script.specs.declared.faults.LineFault.{LineFault}
 use Rattle.camp_talk.specs.Cutting.{lines_in}
 use Rattle.camp_talk.specs.Diagnostics.{Diagnostic, closed, fault_diagnostic, refused_diagnostic}
-use Rattle.camp_talk.specs.Entries.{Entries}
+use Rattle.camp_talk.specs.Entries.{Entries, Recorded}
 use Rattle.camp_talk.specs.FaultTexts.{fault_text}
+use Rattle.camp_talk.specs.Notes.{noted, noted_answer}
 use Rattle.camp_talk.specs.Parsing.{first_of, parsed_command}
 use Rattle.camp_talk.specs.QuestionAnswers.{AnswersQuestion, TextAnswers}
 use Rattle.camp_talk.specs.Reports.{RendersWhy}
@@ -21,10 +22,10 @@ use Rattle.camp_talk.specs.declared.questions.ParsedCommand.{ParsedCommand}
 use Rattle.camp_talk.specs.declared.questions.ParsedCommand.TheVariants as parsed
 use Rattle.camp_why.specs.Hints.{begins}
 
--- the state of a session: the initial state of its repository, the accepted calls, the number of lines that were read,
--- and the diagnostic of the last fault or refusal
+-- the state of a session: what its repository has recorded, the number of lines that were read, and the diagnostic of the
+-- last fault or refusal
 pub record SessionState : Type 0 where
-  pub history : Entries
+  pub recorded : Recorded
   pub lines : ℕ
   pub diagnostic : Diagnostic
 
@@ -43,14 +44,17 @@ pub record Replies (seen : Entries) (call : Call) (text : List ℕ) (now : Entri
   pub reports : text ≡ reply_text reply
 
 -- the answer to a parsed command. A fault: its line, counted from the start of the conversation, and its kind; nothing:
--- none; a call: its reply; a question: its result; `why`: the diagnostic of the last fault or refusal. Only a call can
--- add to the history.
-abbrev pub AnswersParsed : SessionState → Result ParsedCommand LineFault → List ℕ → Entries → Type 0
-AnswersParsed before (Err fault) text now = (text ≡ fault_text (before.lines + fault.line) fault.kind) × (now ≡ before.history)
-AnswersParsed before (Ok parsed.Nothing) text now = (text ≡ []) × (now ≡ before.history)
-AnswersParsed before (Ok (parsed.Call call)) text now = Replies before.history call text now
-AnswersParsed before (Ok (parsed.Question question)) text now = TextAnswers (AnswersQuestion before.history question) text × (now ≡ before.history)
-AnswersParsed before (Ok parsed.Why) text now = RendersWhy before.diagnostic text × (now ≡ before.history)
+-- none; a call: its reply; a note: that it was added, after the calls so far; a question: its result; `why`: the
+-- diagnostic of the last fault or refusal. Only a call can add to the history, and only a note to the notes.
+abbrev pub AnswersParsed : SessionState → Result ParsedCommand LineFault → List ℕ → Recorded → Type 0
+AnswersParsed before (Err fault) text now = (text ≡ fault_text (before.lines + fault.line) fault.kind) × (now ≡ before.recorded)
+AnswersParsed before (Ok parsed.Nothing) text now = (text ≡ []) × (now ≡ before.recorded)
+AnswersParsed before (Ok (parsed.Call call)) text now =
+    Replies before.recorded.history call text now.history × (now.notes ≡ before.recorded.notes)
+AnswersParsed before (Ok (parsed.Note note)) text now = (text ≡ noted_answer) × (now ≡ noted before.recorded note)
+AnswersParsed before (Ok (parsed.Question question)) text now =
+    TextAnswers (AnswersQuestion before.recorded question) text × (now ≡ before.recorded)
+AnswersParsed before (Ok parsed.Why) text now = RendersWhy before.diagnostic text × (now ≡ before.recorded)
 
 -- an answer that is no failure closes the diagnostic from before
 abbrev pub ClosesDiagnostic : SessionState → List ℕ → Diagnostic → Type 0
@@ -62,7 +66,7 @@ pub record KeepsRefusal (before : SessionState) (line : List ℕ) (request : Par
   pub refusal : Refusal
   pub reports : text ≡ reply_text (Refused refusal)
   pub state : Contents
-  pub leads : replay_book repository before.history ≡ Some state
+  pub leads : replay_book repository before.recorded.history ≡ Some state
   pub is : diagnostic ≡ refused_diagnostic state line request refusal
 
 -- a request asks nothing
@@ -71,6 +75,7 @@ asks_nothing parsed.Nothing = true
 asks_nothing (parsed.Call call) = false
 asks_nothing (parsed.Question question) = false
 asks_nothing parsed.Why = false
+asks_nothing (parsed.Note note) = false
 
 -- the diagnostic after a request was answered, given whether it asks nothing: then it stays; a refused request is kept;
 -- any other closes it
@@ -90,8 +95,8 @@ abbrev pub is_silent : List ℕ → Bool
 is_silent command = is_skipped (words_of (first_of (lines_in command)))
 
 -- memory ran out for a command that asks something; this is reported, and nothing has changed
-abbrev pub RunsOutOfMemory : SessionState → List ℕ → List ℕ → Entries → Type 0
-RunsOutOfMemory before command text now = (is_silent command ≡ false) × (text ≡ memory_text) × (now ≡ before.history)
+abbrev pub RunsOutOfMemory : SessionState → List ℕ → List ℕ → Recorded → Type 0
+RunsOutOfMemory before command text now = (is_silent command ≡ false) × (text ≡ memory_text) × (now ≡ before.recorded)
 
 -- the diagnostic after that is the one from before
 abbrev pub KeepsDiagnostic : SessionState → List ℕ → Diagnostic → Type 0
@@ -99,7 +104,7 @@ KeepsDiagnostic before text diagnostic = (text ≡ memory_text) × (diagnostic �
 
 -- a command is answered, unless memory ran out; its lines were read; and if it was not done, why is kept
 pub record AnswersCommand (before : SessionState) (command text : List ℕ) (after : SessionState) : Type 0 where
-  pub reports : AnswersParsed before (parsed_command command) text after.history ⊎ RunsOutOfMemory before command text after.history
+  pub reports : AnswersParsed before (parsed_command command) text after.recorded ⊎ RunsOutOfMemory before command text after.recorded
   pub counts : after.lines ≡ before.lines + length (lines_of command)
   pub updates :
       UpdatesDiagnostic before (lines_in command) (parsed_command command) text after.diagnostic ⊎ KeepsDiagnostic before text after.diagnostic

@@ -8,6 +8,8 @@ use Rattle.camp_script.specs.CommandLines as command
 use Rattle.camp_script.specs.Lines.{lines_of}
 use Rattle.camp_script.specs.Reading.{script_of_lines}
 use Rattle.camp_script.specs.declared.faults.LineFault.{LineFault}
+use Rattle.camp_script.specs.declared.grouping.Expected.TheVariants.{Body}
+use Rattle.camp_talk.specs.Notes.{begins_note}
 use Rattle.camp_why.specs.Hints.{call_part}
 
 -- a line contains no line feed
@@ -39,9 +41,10 @@ call_lines (first ∷ rest) = call_part first ∷ rest
 abbrev pub script_in : List (List ℕ) → Result (List (List Call)) LineFault
 script_in lines = script_of_lines (call_lines lines)
 
--- of the lines after a first line, those that belong to it, by its call
+-- of the lines after a first line, those that belong to it: of a note, those up to `end`; else by its call
 abbrev pub lines_taken : List ℕ → List (List ℕ) → List (List ℕ)
-lines_taken first lines = command.taken (call_part first) lines
+lines_taken first lines =
+    if begins_note first then command.wanted_lines Body lines else command.taken (call_part first) lines
 
 -- bytes are a complete command: they end with a line feed, and whatever follows, exactly the lines after the first
 -- belong to it

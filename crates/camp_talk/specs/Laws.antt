@@ -23,7 +23,11 @@ use Rattle.camp_talk.specs.Diagnostics.{Diagnostic, advanced, begins_command, fa
 use Rattle.camp_talk.specs.Answers.{AnswersCommand, SessionState, memory_text, reports_failure}
 use Rattle.camp_talk.specs.Parsing.{first_of, parsed_command}
 use Rattle.camp_talk.specs.Cutting.{IsLine, longest_read}
-use Rattle.camp_talk.specs.Entries.{Entries}
+use Rattle.camp_talk.specs.Entries.{Entries, Recorded}
+use Rattle.camp_talk.specs.Notes.{body_lines, note_about, note_command, noted}
+use Rattle.camp_notes.specs.Notes.{CanBeNote}
+use Rattle.camp_notes.specs.declared.notes.Note.{Note}
+use Rattle.camp_base.specs.Limits.{longest_line}
 use Rattle.camp_talk.specs.Frames.{BeginsNoFrame, EndsWithin, HasNoFrame, most_bytes}
 use Rattle.camp_talk.specs.Loads.{Loads}
 use Rattle.camp_talk.specs.QuestionAnswers.{counted}
@@ -59,6 +63,7 @@ Failed (Err fault) text = Unit {0}
 Failed (Ok parsed.Nothing) text = ⊥
 Failed (Ok (parsed.Call call)) text = (refusal : Refusal) × (text ≡ reply_text (Refused refusal))
 Failed (Ok parsed.Why) text = ⊥
+Failed (Ok (parsed.Note note)) text = ⊥
 Failed (Ok (parsed.Question question)) text = (refusal : Refusal) × (text ≡ reply_text (Refused refusal))
 
 -- an answer reports a failure exactly if its command has a fault, or it is a refusal or out of memory
@@ -89,8 +94,22 @@ abbrev pub KeepRestoresHistory : Type 0
 KeepRestoresHistory =
     (history : Entries) (state : Contents) → replay_book repository history ≡ Some state →
     AllByRecursion IsScriptCall (calls_of history.calls) → AllByRecursion IsReadWhole (calls_of history.calls) →
-    (rest : Option (List ℕ)) (result : Result (Unit {0}) LoadFault) (now : Entries) →
-    Loads (Some (kept_text history.calls)) rest (new_book history.first) result now → RestoresHistory history state result now
+    (rest : Option (List ℕ)) (result : Result (Unit {0}) LoadFault) (now : Recorded) →
+    Loads (Some (kept_text history.calls)) rest (record { history = new_book history.first; notes = [] }) result now →
+    RestoresHistory history state result now.history × (now.notes ≡ [])
+
+-- what `about` finds after a note: of its name this note, and of any other name the note from before
+pub record LastNotesCount : Type 0 where
+  pub own : (before : Recorded) (note : Note) → note_about (noted before note).notes note.name ≡ Some note.text
+  pub others : (before : Recorded) (note : Note) (name : List ℕ) → name ≢ note.name →
+      note_about (noted before note).notes name ≡ note_about before.notes name
+
+-- a note is read back from its command, and so from the lines that `about` answers, if none of its lines is longer than
+-- a line of a file can be
+abbrev pub NotesAreReadBack : Type 0
+NotesAreReadBack =
+    (note : Note) → CanBeNote note → AllByRecursion (λ line. length line ≤ longest_line + 1) (lines_of (body_lines note.text)) →
+    parsed_command (note_command note) ≡ Ok (parsed.Note note)
 
 -- the diagnostic of a refused call has a cause: it is one of that refusal, and what it says of the call and the state is
 -- true

@@ -9,6 +9,7 @@ pub mod Frames
 pub mod Inside
 pub mod Laws
 pub mod Loads
+pub mod Notes
 pub mod Parsing
 pub mod QuestionAnswers
 pub mod Reports

@@ -1,4 +1,4 @@
--- Parsed commands: nothing, a call, a question, or `why`.
+-- Parsed commands: nothing, a call, a note, a question, or `why`.
 use Rattle.std.specs.Prelude.{ℕ, List, [], ◌∷◌, Option, None, Some, Result, Ok, Bool, ◌||◌, bytes_eq, codes, if◌then◌else◌}
 use Rattle.std.specs.List.{find}
 use Rattle.camp_call.specs.declared.calls.Call.{Call}
@@ -9,6 +9,7 @@ use Rattle.camp_script.specs.Words.{name_at, names_at, no_words, one_word, path_
 use Rattle.camp_base.specs.Results.{◌>>=◌}
 use Rattle.camp_script.specs.declared.faults.FaultKind.TheVariants.{BadNumber, UnknownCommand, WrongNumberOfWords}
 use Rattle.camp_script.specs.declared.faults.LineFault.{LineFault}
+use Rattle.camp_talk.specs.Notes.{begins_note, note_of_lines}
 use Rattle.camp_talk.specs.Topics.{topic_word, commands, reason_number, reasons}
 use Rattle.camp_talk.specs.declared.questions.ParsedCommand.{ParsedCommand}
 use Rattle.camp_talk.specs.declared.questions.ParsedCommand.TheVariants as parsed
@@ -48,7 +49,7 @@ branches_and_names (from ∷ to ∷ name ∷ names) =
     name_at 1 from >>= λ from. name_at 1 to >>= λ to. names_at 1 (name ∷ names) >>= λ names. Ok (from, to, names)
 branches_and_names others = fault_at 1 WrongNumberOfWords
 
--- parses a branch and nothing else
+-- parses a name, of a branch or of a patch, and nothing else
 abbrev pub branch_alone : List (List ℕ) → Result (List ℕ) LineFault
 branch_alone words = one_word 1 words >>= name_at 1
 
@@ -108,7 +109,8 @@ plain_question word words =
     else (if bytes_eq word (codes "keep") then (no_words 1 words >>= λ none. Ok (Some question.Keep))
     else (if bytes_eq word (codes "branches") then (no_words 1 words >>= λ none. Ok (Some question.Branches))
     else (if bytes_eq word (codes "help") then (help_line words >>= λ topic. Ok (Some (question.Help topic)))
-    else Ok None)))
+    else (if bytes_eq word (codes "about") then (branch_alone words >>= λ name. Ok (Some (question.About name)))
+    else Ok None))))
 
 -- a question about conflicts or about a file, by its first word
 abbrev pub conflict_question : List ℕ → List (List ℕ) → Result (Option Question) LineFault
@@ -197,7 +199,9 @@ parsed_words (word ∷ words) script =
 
 -- the parsed command of these lines, or their fault
 abbrev pub parsed_lines : List (List ℕ) → Result ParsedCommand LineFault
-parsed_lines lines = parsed_words (words_of (first_of lines)) (script_in lines)
+parsed_lines lines =
+    if begins_note (first_of lines) then (note_of_lines lines >>= λ note. Ok (parsed.Note note))
+    else parsed_words (words_of (first_of lines)) (script_in lines)
 
 -- the parsed command of bytes, or their fault
 abbrev pub parsed_command : List ℕ → Result ParsedCommand LineFault

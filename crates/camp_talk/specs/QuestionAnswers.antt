@@ -9,6 +9,7 @@ use Rattle.camp_prim.specs.declared.primitives.Primitive.{Primitive}
 use Rattle.camp_call.specs.declared.calls.Call.{Call}
 use Rattle.camp_call.specs.declared.replies.Reply.TheVariants.{Refused}
 use Rattle.camp_notation.specs.Catches.{catch_text}
+use Rattle.camp_notes.specs.declared.logs.PlacedNote.{PlacedNote}
 use Rattle.camp_object.specs.Books.{replay_book}
 use Rattle.camp_questions.specs.Along.{AreAlong}
 use Rattle.camp_questions.specs.Annotations.{AreAnnotated}
@@ -39,7 +40,8 @@ use Rattle.camp_script.specs.Keeping.{kept_text}
 use Rattle.camp_script.specs.Lines.{lines_of}
 use Rattle.camp_script.specs.Signs.{equals_sign, plus_sign}
 use Rattle.camp_script.specs.Texts.{conflicts_text, line_text, name_text, pair_text, reply_text, signed_line, tree_text}
-use Rattle.camp_talk.specs.Entries.{Entries}
+use Rattle.camp_talk.specs.Entries.{Recorded}
+use Rattle.camp_talk.specs.Notes.{about_answer, note_about}
 use Rattle.camp_talk.specs.declared.questions.Question.{Question}
 use Rattle.camp_talk.specs.declared.questions.Question.TheVariants as question
 
@@ -155,33 +157,35 @@ keep_answer history = counted (codes "keep") (kept_text history)
 abbrev pub IsHelp : List ℕ → Type 0
 IsHelp text = (lines : List ℕ) × (text ≡ counted (codes "help") lines)
 
--- the answer to each question, at the state after a history, or its refusal
-abbrev pub AnswersQuestionAt : List (ℕ × Call) → Contents → Question → AnswerOf (List ℕ) → Type 0
-AnswersQuestionAt history state (question.Needs branch names) answer =
+-- the answer to each question, given the accepted calls, the notes, and the state after these calls, or its refusal
+abbrev pub AnswersQuestionAt : List (ℕ × Call) → List PlacedNote → Contents → Question → AnswerOf (List ℕ) → Type 0
+AnswersQuestionAt history notes state (question.Needs branch names) answer =
     RendersAnswer (names_answer (codes "needs")) (AreNeeded state branch names) answer
-AnswersQuestionAt history state (question.Held branch names) answer =
+AnswersQuestionAt history notes state (question.Held branch names) answer =
     RendersAnswer (names_answer (codes "held")) (AreHeldBy state branch names) answer
-AnswersQuestionAt history state (question.Missing from to) answer =
+AnswersQuestionAt history notes state (question.Missing from to) answer =
     RendersAnswer (names_answer (codes "missing")) (IsMissing state from to) answer
-AnswersQuestionAt history state (question.Show branch name) answer = RendersAnswer patch_answer (IsShown state branch name) answer
-AnswersQuestionAt history state (question.Annotate branch path) answer =
+AnswersQuestionAt history notes state (question.Show branch name) answer = RendersAnswer patch_answer (IsShown state branch name) answer
+AnswersQuestionAt history notes state (question.Annotate branch path) answer =
     RendersAnswer annotated_answer (AreAnnotated state branch path) answer
-AnswersQuestionAt history state (question.Along from to names) answer =
+AnswersQuestionAt history notes state (question.Along from to names) answer =
     RendersAnswer (names_answer (codes "along")) (AreAlong state from to names) answer
-AnswersQuestionAt history state (question.Open branch) answer = RendersAnswer open_answer (AreUnresolved state branch) answer
-AnswersQuestionAt history state (question.Side branch name) answer = RendersAnswer side_answer (IsSide state branch name) answer
-AnswersQuestionAt history state (question.Marks branch path) answer = RendersAnswer marks_answer (AreMarked state branch path) answer
-AnswersQuestionAt history state (question.File branch path) answer = RendersAnswer file_answer (IsFile state branch path) answer
-AnswersQuestionAt history state question.Branches answer =
+AnswersQuestionAt history notes state (question.Open branch) answer = RendersAnswer open_answer (AreUnresolved state branch) answer
+AnswersQuestionAt history notes state (question.Side branch name) answer = RendersAnswer side_answer (IsSide state branch name) answer
+AnswersQuestionAt history notes state (question.Marks branch path) answer = RendersAnswer marks_answer (AreMarked state branch path) answer
+AnswersQuestionAt history notes state (question.File branch path) answer = RendersAnswer file_answer (IsFile state branch path) answer
+AnswersQuestionAt history notes state question.Branches answer =
     answer ≡ Ok (names_answer (codes "branches") (branch_names state))
-AnswersQuestionAt history state (question.Graph branch names) answer = RendersAnswer graph_answer (IsPictured state branch names) answer
-AnswersQuestionAt history state (question.WhatIf call) answer =
+AnswersQuestionAt history notes state (question.Graph branch names) answer = RendersAnswer graph_answer (IsPictured state branch names) answer
+AnswersQuestionAt history notes state (question.WhatIf call) answer =
     (seen : Foreseen) × Foresees state call seen × (answer ≡ Ok (foreseen_answer seen))
-AnswersQuestionAt history state question.History answer = answer ≡ Ok (history_text history)
-AnswersQuestionAt history state question.Keep answer = answer ≡ Ok (keep_answer history)
-AnswersQuestionAt history state (question.Help topic) answer = (text : List ℕ) × IsHelp text × (answer ≡ Ok text)
+AnswersQuestionAt history notes state question.History answer = answer ≡ Ok (history_text history)
+AnswersQuestionAt history notes state question.Keep answer = answer ≡ Ok (keep_answer history)
+AnswersQuestionAt history notes state (question.About name) answer = answer ≡ Ok (about_answer (note_about notes name))
+AnswersQuestionAt history notes state (question.Help topic) answer = (text : List ℕ) × IsHelp text × (answer ≡ Ok text)
 
--- the result of a question, at the state that a history leads to
-abbrev pub AnswersQuestion : Entries → Question → AnswerOf (List ℕ) → Type 0
-AnswersQuestion history question answer =
-    (state : Contents) × (replay_book repository history ≡ Some state) × AnswersQuestionAt history.calls state question answer
+-- the result of a question about what is recorded, at the state that the history leads to
+abbrev pub AnswersQuestion : Recorded → Question → AnswerOf (List ℕ) → Type 0
+AnswersQuestion recorded question answer =
+    (state : Contents) × (replay_book repository recorded.history ≡ Some state)
+    × AnswersQuestionAt recorded.history.calls recorded.notes state question answer

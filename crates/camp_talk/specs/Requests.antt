@@ -5,22 +5,23 @@ use Rattle.camp_talk.specs.Diagnostics.{no_diagnostic}
 use Rattle.camp_talk.specs.Answers.{AnswersCommand, AnswersParsed, SessionState}
 use Rattle.camp_talk.specs.Parsing.{parsed_command}
 use Rattle.camp_talk.specs.Cutting.{IsCommand, IsLeft}
-use Rattle.camp_talk.specs.Entries.{Entries}
+use Rattle.camp_talk.specs.Entries.{Recorded}
 use Rattle.camp_talk.specs.Talks.{AnswersInOrder, Exchange}
 use Rattle.camp_talk.specs.declared.faults.TalkFault.{TalkFault}
 use Rattle.camp_talk.specs.declared.faults.TalkFault.TheVariants.{Internal, Memory, Read, Write}
 
 -- a request is commands, one after the other, the last of which may be cut off by its end; the answer is the answer to
--- each, in order. The request begins with these accepted calls, and leads to those. Lines are counted from its start.
-pub record AnswersRequest (history : Entries) (request answer : List ℕ) (now : Entries) : Type 0 where
+-- each, in order. The request begins with these accepted calls and notes, and leads to those. Lines are counted from its
+-- start.
+pub record AnswersRequest (recorded : Recorded) (request answer : List ℕ) (now : Recorded) : Type 0 where
   pub exchanges : List Exchange
   pub last : Exchange
   pub middle : SessionState
   pub after : SessionState
-  pub follow : AnswersInOrder (record { history = history; lines = 0; diagnostic = no_diagnostic }) exchanges middle
+  pub follow : AnswersInOrder (record { recorded = recorded; lines = 0; diagnostic = no_diagnostic }) exchanges middle
   pub is : IsLeft last.command
   pub answers : AnswersCommand middle last.command last.answer after
-  pub same : now ≡ after.history
+  pub same : now ≡ after.recorded
   pub asks : request ≡ flat_map (λ exchange. exchange.command) exchanges ++ last.command
   pub reports : answer ≡ flat_map (λ exchange. exchange.answer) exchanges ++ last.answer
 
@@ -41,7 +42,7 @@ pub record HasCommands (request : List ℕ) (count : ℕ) : Type 0 where
 
 -- the next command of a request was executed, perhaps one that the end of the request cuts off, but its answer is lost;
 -- `before` commands are settled before it
-pub record LosesAnswer (middle : SessionState) (rest : List ℕ) (now : Entries) (before executed : ℕ) : Type 0 where
+pub record LosesAnswer (middle : SessionState) (rest : List ℕ) (now : Recorded) (before executed : ℕ) : Type 0 where
   pub last : Exchange
   pub more : List ℕ
   pub is : IsCommand last.command ⊎ (IsLeft last.command × (more ≡ []))
@@ -53,14 +54,14 @@ pub record LosesAnswer (middle : SessionState) (rest : List ℕ) (now : Entries)
 -- answered `memory` and has changed nothing. Their answers are there, but perhaps that of the last one. The history
 -- determines how many calls that write are among them; a blank line, a comment or a question at the end changes nothing,
 -- and may be counted or not.
-pub record AnswersSome (history : Entries) (request answer : List ℕ) (now : Entries) (executed : ℕ) : Type 0 where
+pub record AnswersSome (recorded : Recorded) (request answer : List ℕ) (now : Recorded) (executed : ℕ) : Type 0 where
   pub exchanges : List Exchange
   pub middle : SessionState
-  pub follow : AnswersInOrder (record { history = history; lines = 0; diagnostic = no_diagnostic }) exchanges middle
+  pub follow : AnswersInOrder (record { recorded = recorded; lines = 0; diagnostic = no_diagnostic }) exchanges middle
   pub rest : List ℕ
   pub asks : request ≡ flat_map (λ exchange. exchange.command) exchanges ++ rest
   pub reports : answer ≡ flat_map (λ exchange. exchange.answer) exchanges
-  pub leaves : ((now ≡ middle.history) × (executed ≡ length exchanges)) ⊎ LosesAnswer middle rest now (length exchanges) executed
+  pub leaves : ((now ≡ middle.recorded) × (executed ≡ length exchanges)) ⊎ LosesAnswer middle rest now (length exchanges) executed
 
 -- why a request is not answered whole: memory ran out, or its bytes could not be read
 abbrev pub IsUnanswered : TalkFault → Type 0

@@ -10,7 +10,7 @@ abbrev pub commands : List Topic
 commands =
     topic.Branch ∷ topic.Record ∷ topic.Pull ∷ topic.Obliterate ∷ topic.Tree ∷ topic.Conflicts ∷ topic.Names
     ∷ topic.Branches ∷ topic.File ∷ topic.Needs ∷ topic.Held ∷ topic.Missing ∷ topic.Along ∷ topic.Show
-    ∷ topic.Annotate ∷ topic.Open ∷ topic.Side ∷ topic.Marks ∷ topic.Graph ∷ topic.WhatIf ∷ topic.Why ∷ topic.History ∷ topic.Keep ∷ topic.Help ∷ []
+    ∷ topic.Annotate ∷ topic.Open ∷ topic.Side ∷ topic.Marks ∷ topic.Graph ∷ topic.WhatIf ∷ topic.Why ∷ topic.History ∷ topic.Keep ∷ topic.Note ∷ topic.About ∷ topic.Help ∷ []
 
 -- the first word of a command
 abbrev pub topic_word : Topic → List ℕ
@@ -40,6 +40,8 @@ topic_word topic.WhatIf = codes "whatif"
 topic_word topic.Why = codes "why"
 topic_word topic.History = codes "history"
 topic_word topic.Keep = codes "keep"
+topic_word topic.Note = codes "note"
+topic_word topic.About = codes "about"
 topic_word topic.Help = codes "help"
 
 -- the reasons for refusals, in the order of their numbers

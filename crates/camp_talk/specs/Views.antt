@@ -20,10 +20,11 @@ use Rattle.camp_talk.specs.declared.questions.ParsedCommand.TheVariants as parse
 use Rattle.camp_talk.specs.declared.questions.Question.{Question}
 use Rattle.camp_talk.specs.declared.questions.Question.TheVariants as question
 
--- a question asks about the history, which a view does not have
+-- a question asks about the history or a note, which a view does not have
 abbrev pub is_of_history : Question → Bool
 is_of_history question.History = true
 is_of_history question.Keep = true
+is_of_history (question.About name) = true
 is_of_history other = false
 
 -- a view does not answer a command: it would write, or asks about the history or another command
@@ -32,6 +33,7 @@ is_beyond parsed.Nothing = false
 is_beyond (parsed.Call call) = is_writing call
 is_beyond (parsed.Question question) = is_of_history question
 is_beyond parsed.Why = true
+is_beyond (parsed.Note note) = true
 
 -- the fault of a command that a view does not answer, with its line
 abbrev pub beyond_text : ℕ → List ℕ
@@ -46,8 +48,9 @@ shown_reply state call = reply_text (reply_of (step state call))
 abbrev pub ShowsParsed : Contents → ParsedCommand → List ℕ → Type 0
 ShowsParsed state parsed.Nothing text = text ≡ []
 ShowsParsed state (parsed.Call call) text = text ≡ shown_reply state call
-ShowsParsed state (parsed.Question question) text = TextAnswers (AnswersQuestionAt [] state question) text
+ShowsParsed state (parsed.Question question) text = TextAnswers (AnswersQuestionAt [] [] state question) text
 ShowsParsed state parsed.Why text = ⊥
+ShowsParsed state (parsed.Note note) text = ⊥
 
 -- whether a view does not answer the parsed command of a line
 abbrev pub ShowsAt : Bool → Contents → ℕ → ParsedCommand → List ℕ → Type 0

@@ -7,7 +7,7 @@ ghost use Rattle.camp_script.specs.Lines.{lines_of};
 ghost use Rattle.camp_script.specs.Texts.{reply_text};
 ghost use Rattle.camp_script.specs.declared.faults.LineFault.{LineFault as SpecFault};
 ghost use Rattle.camp_talk.specs.Answers.{asks_nothing};
-ghost use Rattle.camp_talk.specs.Entries.{Entries};
+ghost use Rattle.camp_talk.specs.Entries.{Entries, Recorded};
 ghost use Rattle.camp_talk.specs.Inside.ExecutingNext.{ExecutesRequest, RefusesRequest, RendersReply, RepliesTo, RespondsTo};
 ghost use Rattle.camp_talk.specs.Inside.Responses.{IsOutOfMemory};
 ghost use Rattle.camp_talk.specs.Talks.{AppendsSome};
@@ -15,12 +15,14 @@ ghost use Rattle.camp_talk.specs.declared.questions.ParsedCommand.{ParsedCommand
 
 use crate::Diagnostic;
 use crate::answer_parts::refusal_text;
+use crate::note_answers::add_note;
 use crate::parsing::first_line;
 use crate::question_answers::answer_at;
 use crate::questions::ParsedCommand;
 use crate::readings::Command;
 use crate::responses::{Failure, Response, fault_text};
 use crate::why_reports::render_why;
+use camp_notes::NoteLog;
 use camp_object::Fault;
 use camp_questions::Unanswered;
 use camp_repo::{Book, Call, Refusal, Reply, State};
@@ -36,18 +38,19 @@ use std::io::Write;
 pub(crate) fn respond(
     alloc: Global,
     book: &mut Book<State>,
+    notes: &mut NoteLog,
     before: u64,
     diagnostic: &mut Diagnostic,
     command: Command,
 ) -> Response
     ensures responds { (reading : Result SpecParsedCommand SpecFault) → Gives command.parsed reading →
-        RespondsTo (record { history = book.old; lines = before; diagnostic = diagnostic.old }) (lines_of command.bytes.items) reading
-        result book.new diagnostic.new }
+        RespondsTo (record { recorded = record { history = book.old; notes = notes.old }; lines = before; diagnostic = diagnostic.old }) (lines_of command.bytes.items) reading
+        result (record { history = book.new; notes = notes.new }) diagnostic.new }
     ensures nothing { IsOutOfMemory result → command.parsed ≢ Ok SpecParsedCommand.Nothing }
 {
     let Command { bytes, parsed, .. } = command;
     match parsed {
-        Ok(request) => respond_to_request(alloc, book, diagnostic, &bytes, request),
+        Ok(request) => respond_to_request(alloc, book, notes, diagnostic, &bytes, request),
         Err(ScriptFault::Line(fault)) => respond_to_fault(alloc, before, diagnostic, &bytes, fault),
         Err(ScriptFault::Memory) => Response::OutOfMemory,
     }
@@ -62,8 +65,8 @@ fn respond_to_fault(
     command: &[u8],
     fault: LineFault,
 ) -> Response
-    ensures { (history : Entries) → RespondsTo (record { history = history; lines = before; diagnostic = diagnostic.old })
-        (lines_of command.now) (Err fault) result history diagnostic.new }
+    ensures { (recorded : Recorded) → RespondsTo (record { recorded = recorded; lines = before; diagnostic = diagnostic.old })
+        (lines_of command.now) (Err fault) result recorded diagnostic.new }
 {
     let Ok(answer) = fault_text(alloc, before, fault.line, fault.kind) else {
         return Response::OutOfMemory;
@@ -82,18 +85,19 @@ fn respond_to_fault(
 fn respond_to_request(
     alloc: Global,
     book: &mut Book<State>,
+    notes: &mut NoteLog,
     diagnostic: &mut Diagnostic,
     command: &[u8],
     request: ParsedCommand,
 ) -> Response
-    ensures responds { (before : ℕ) → RespondsTo (record { history = book.old; lines = before; diagnostic = diagnostic.old })
-        (lines_of command.now) (Ok request) result book.new diagnostic.new }
+    ensures responds { (before : ℕ) → RespondsTo (record { recorded = record { history = book.old; notes = notes.old }; lines = before; diagnostic = diagnostic.old })
+        (lines_of command.now) (Ok request) result (record { history = book.new; notes = notes.new }) diagnostic.new }
     ensures nothing { IsOutOfMemory result → asks_nothing request ≡ false }
 {
     if asks_nothing(&request) {
         return Response::Done(Vec::new(alloc));
     }
-    match execute(alloc, book, diagnostic, &request) {
+    match execute(alloc, book, notes, diagnostic, &request) {
         Ok(answer) => {
             diagnostic.close();
             Response::Done(answer)
@@ -140,16 +144,18 @@ fn refuse(
 fn execute(
     alloc: Global,
     book: &mut Book<State>,
+    notes: &mut NoteLog,
     diagnostic: &Diagnostic,
     request: &ParsedCommand,
 ) -> Result<Vec<u8>, Unanswered>
-    ensures { (before : ℕ) → ExecutesRequest (record { history = book.old; lines = before; diagnostic = diagnostic.now }) request.now result book.new }
+    ensures { (before : ℕ) → ExecutesRequest (record { recorded = record { history = book.old; notes = notes.old }; lines = before; diagnostic = diagnostic.now }) request.now result (record { history = book.new; notes = notes.new }) }
 {
     match request {
         ParsedCommand::Nothing => Ok(Vec::new(alloc)),
         ParsedCommand::Call(call) => reply(alloc, book, call),
+        ParsedCommand::Note(note) => add_note(alloc, book, notes, note),
         ParsedCommand::Question(question) => {
-            answer_at(alloc, book.history(), book.state(), question)
+            answer_at(alloc, book.history(), notes, book.state(), question)
         }
         ParsedCommand::Why => Ok(render_why(alloc, diagnostic)?),
     }

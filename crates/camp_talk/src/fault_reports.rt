@@ -147,6 +147,18 @@ fn body_rule(kind: FaultKind) -> &'static str {
             A line with just done ends it.\n"
         }
         FaultKind::GroupNotEnded => "A group ends with a line with just done. Write it.\n",
+        other => note_rule(other),
+    }
+}
+
+// Returns the broken rule of a note, and what to write.
+fn note_rule(kind: FaultKind) -> &'static str {
+    match kind {
+        FaultKind::BadNote => {
+            "A note has at least one line, each after +, and then a line with just end.\n"
+        }
+        FaultKind::NoteNotEnded => "A note ends with a line with just end. Write it.\n",
+        FaultKind::NoteTooLong => "A note has at most 65536 bytes, with its line feeds.\n",
         _ => "",
     }
 }

@@ -47,7 +47,7 @@ fn all_summaries(alloc: Global) -> Result<Vec<u8>, AllocError> {
 }
 
 /// Returns the commands, in the order of the help text.
-pub(crate) fn commands() -> [Topic; 24]
+pub(crate) fn commands() -> [Topic; 26]
     ensures { result ≡ commands }
 {
     [
@@ -74,6 +74,8 @@ pub(crate) fn commands() -> [Topic; 24]
         Topic::Why,
         Topic::History,
         Topic::Keep,
+        Topic::Note,
+        Topic::About,
         Topic::Help,
     ]
 }
@@ -107,6 +109,8 @@ pub(crate) fn topic_word(topic: Topic) -> &'static str
         Topic::Why => "why",
         Topic::History => "history",
         Topic::Keep => "keep",
+        Topic::Note => "note",
+        Topic::About => "about",
         Topic::Help => "help",
     }
 }
@@ -158,6 +162,8 @@ fn summary(topic: Topic) -> &'static str {
         Topic::Why => "why: the cause of the last fault or refusal, and what can be done\n",
         Topic::History => "history: the accepted commands\n",
         Topic::Keep => "keep: a script that makes the repository again\n",
+        Topic::Note => "note NAME: a text about a patch; its lines follow, up to end\n",
+        Topic::About => "about NAME: the last note of a patch\n",
         Topic::Help => HELP_FORMS,
     }
 }
@@ -209,6 +215,8 @@ fn details(topic: Topic) -> &'static str {
             unresolved and those that would be resolved, and the files.\n"
         }
         Topic::Why => WHY,
+        Topic::Note =>
+            "1 line or more, each after +; 65536 bytes at most. The patch need not exist.\n",
         Topic::History =>
             "For each its number, its seat (0), and its words; for a body or a group the counts.\n",
         _ => "",
@@ -242,6 +250,8 @@ fn example(topic: Topic) -> &'static str {
         Topic::Why => "why\n",
         Topic::History => "history\n",
         Topic::Keep => "keep\n",
+        Topic::Note => "note hello\n+why\nend\n",
+        Topic::About => "about hello\n",
         Topic::Help => "help record\n",
     }
 }

@@ -1,7 +1,7 @@
 //! The laws of answers: counts, failures, diagnostics, requests, frames, and loading the output of `keep`.
 ghost use Rattle.camp_talk.specs.Engine.Services.{RequestsAreServedInTurn};
-ghost use Rattle.camp_talk.specs.Entries.{Entries};
-ghost use Rattle.camp_talk.specs.Laws.{CausesAreReported, CountsMatchLines, FailuresAreReported, FaultsAreDescribed, KeepRestoresHistory, RecoveryFollowsCutOff, RefusalsAreDescribed, UnservedBytesHaveNoFrame};
+ghost use Rattle.camp_talk.specs.Entries.{Recorded};
+ghost use Rattle.camp_talk.specs.Laws.{CausesAreReported, CountsMatchLines, FailuresAreReported, FaultsAreDescribed, KeepRestoresHistory, LastNotesCount, NotesAreReadBack, RecoveryFollowsCutOff, RefusalsAreDescribed, UnservedBytesHaveNoFrame};
 ghost use Rattle.camp_talk.specs.Visible.{ShownBytesArePrintable};
 
 use crate::engine::{Backend, Framing};
@@ -22,6 +22,17 @@ pub fn failures_are_reported()
 /// state, however many they are. A load that fails has accepted a prefix of them.
 pub fn keep_restores_history()
     ensures law { KeepRestoresHistory }
+{}
+
+/// After a note `about` answers this note for its name, and for any other name what it answered before.
+pub fn last_notes_count()
+    ensures law { LastNotesCount }
+{}
+
+/// A note is read back from its command, and so from the lines that `about` answers, if none of its lines is longer than
+/// a line of a file can be.
+pub fn notes_are_read_back()
+    ensures law { NotesAreReadBack }
 {}
 
 /// If a call is refused because of a limit or its changes, the diagnostic that `why` reports has a cause, and
@@ -51,7 +62,7 @@ pub fn recovery_follows_cut_off()
 /// If requests are served in frames, in memory or over a store, the n-th answer that was written is that of the n-th
 /// request that was read, executed after the requests before it.
 pub fn requests_are_served_in_turn<B: Backend<Vec<u8>, Vec<u8>>, F: Framing<Vec<u8>, Vec<u8>>>()
-    ensures law { (history_of : B → Entries) → RequestsAreServedInTurn B.Backend F.Framing history_of }
+    ensures law { (recorded_of : B → Recorded) → RequestsAreServedInTurn B.Backend F.Framing recorded_of }
 {}
 
 /// A line that is no number of bytes, or too great a one, begins no frame; and what was read of an incomplete frame

@@ -17,6 +17,8 @@ mod laws;
 mod lines;
 mod loads;
 mod names_answers;
+mod note_answers;
+mod note_lines;
 mod parsing;
 mod plain_texts;
 mod prompts;
@@ -41,6 +43,7 @@ mod what_if_answers;
 mod why_reports;
 
 pub use answers::write_answer;
+pub use camp_notes::NoteLog;
 pub use camp_repo::{Book, LimitFault, Limits, State, new_book};
 pub use diagnostics::Diagnostic;
 pub use engine::{
@@ -51,8 +54,9 @@ pub use faults::{LoadFault, TalkFault};
 pub use frames::FrameFault;
 pub use laws::{
     causes_are_reported, counts_match_lines, failures_are_reported, faults_are_described,
-    keep_restores_history, recovery_follows_cut_off, refusals_are_described,
-    requests_are_served_in_turn, shown_bytes_are_printable, unserved_bytes_have_no_frame,
+    keep_restores_history, last_notes_count, notes_are_read_back, recovery_follows_cut_off,
+    refusals_are_described, requests_are_served_in_turn, shown_bytes_are_printable,
+    unserved_bytes_have_no_frame,
 };
 pub use loads::load;
 pub use question_answers::answer_question;

@@ -7,22 +7,24 @@ ghost use Rattle.camp_talk.specs.Talks.{HasGrown};
 use crate::responses::Response;
 use crate::talks::{ExecutedCommand, execute_next};
 use crate::{Diagnostic, LoadFault};
+use camp_notes::NoteLog;
 use camp_repo::{Book, State};
 use std::alloc::Global;
 use std::io::BufRead;
 
-/// Executes the commands of a reader on a book at seat 0, one after the other, until the input ends or one is not done.
+/// Executes the commands of a reader, calls on a book at seat 0, one after the other, until the input ends or one is not done.
 /// Answers are dropped; that of a command that is not done is the error.
 pub fn load<R: BufRead>(
     alloc: Global,
     book: &mut Book<State>,
+    notes: &mut NoteLog,
     reader: &mut R,
 ) -> Result<(), LoadFault>
-    ensures loads { Loads (R.remaining reader.old) (R.remaining reader.new) book.old result book.new }
+    ensures loads { Loads (R.remaining reader.old) (R.remaining reader.new) (record { history = book.old; notes = notes.old }) result (record { history = book.new; notes = notes.new }) }
 {
     let mut lines = 0;
     let mut diagnostic = Diagnostic::new();
-    while load_one(alloc, book, &mut lines, &mut diagnostic, reader)? {}
+    while load_one(alloc, book, notes, &mut lines, &mut diagnostic, reader)? {}
     Ok(())
 }
 
@@ -31,13 +33,14 @@ pub fn load<R: BufRead>(
 fn load_one<R: BufRead>(
     alloc: Global,
     book: &mut Book<State>,
+    notes: &mut NoteLog,
     lines: &mut u64,
     diagnostic: &mut Diagnostic,
     reader: &mut R,
 ) -> Result<bool, LoadFault>
     ensures loads { LoadsOne (R.remaining reader.old) (R.remaining reader.new)
-        (record { history = book.old; lines = lines.old; diagnostic = diagnostic.old })
-        result (record { history = book.new; lines = lines.new; diagnostic = diagnostic.new }) }
+        (record { recorded = record { history = book.old; notes = notes.old }; lines = lines.old; diagnostic = diagnostic.old })
+        result (record { recorded = record { history = book.new; notes = notes.new }; lines = lines.new; diagnostic = diagnostic.new }) }
     ensures counts { IfOk result (λ more. more ≡ true → HasGrown lines.old lines.new) }
 {
     let ExecutedCommand {
@@ -45,7 +48,7 @@ fn load_one<R: BufRead>(
         line,
         lines: after,
         is_whole,
-    } = match execute_next(alloc, book, *lines, diagnostic, reader) {
+    } = match execute_next(alloc, book, notes, *lines, diagnostic, reader) {
         Ok(executed) => executed,
         Err(why) => return Err(LoadFault::Talk(why)),
     };

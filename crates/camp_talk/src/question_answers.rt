@@ -10,8 +10,10 @@ use crate::file_answers::{render_annotated, render_file};
 use crate::graph_answers::render_graph;
 use crate::help_answers::render_help;
 use crate::names_answers::{render_branches, render_found};
+use crate::note_answers::render_about;
 use crate::show_answers::render_shown;
 use crate::what_if_answers::render_foreseen;
+use camp_notes::NoteLog;
 use camp_questions::{
     Unanswered, along, annotate, file, held_by, marks, missing, needs, picture_of, show, side,
     unresolved_pairs,
@@ -24,23 +26,25 @@ use std::alloc::{AllocError, Global};
 pub fn answer_question(
     alloc: Global,
     book: &Book<State>,
+    notes: &NoteLog,
     question: &Question,
 ) -> Result<Vec<u8>, AllocError>
-    ensures text { IfOk result (λ text. TextAnswers (AnswersQuestion book.now question.now) text.items) }
+    ensures text { IfOk result (λ text. TextAnswers (AnswersQuestion (record { history = book.now; notes = notes.now }) question.now) text.items) }
 {
-    text_at(alloc, book.history(), book.state(), question)
+    text_at(alloc, book.history(), notes, book.state(), question)
 }
 
 /// Renders the answer at the state after a history, or the refusal.
 pub(crate) fn text_at(
     alloc: Global,
     history: &[(u32, Call)],
+    notes: &NoteLog,
     state: &State,
     question: &Question,
 ) -> Result<Vec<u8>, AllocError>
-    ensures { IfOk result (λ text. TextAnswers (AnswersQuestionAt history.now state.now question.now) text.items) }
+    ensures { IfOk result (λ text. TextAnswers (AnswersQuestionAt history.now notes.now state.now question.now) text.items) }
 {
-    match answer_at(alloc, history, state, question) {
+    match answer_at(alloc, history, notes, state, question) {
         Ok(text) => Ok(text),
         Err(Unanswered::Refused(refusal)) => refusal_text(alloc, &refusal),
         Err(Unanswered::Memory) => Err(AllocError),
@@ -51,10 +55,11 @@ pub(crate) fn text_at(
 pub(crate) fn answer_at(
     alloc: Global,
     history: &[(u32, Call)],
+    notes: &NoteLog,
     state: &State,
     question: &Question,
 ) -> Result<Vec<u8>, Unanswered>
-    ensures { GivesAnswer (AnswersQuestionAt history.now state.now question.now) result }
+    ensures { GivesAnswer (AnswersQuestionAt history.now notes.now state.now question.now) result }
 {
     match question {
         Question::Needs { branch, names } => {
@@ -82,6 +87,7 @@ pub(crate) fn answer_at(
         Question::WhatIf(call) => Ok(render_foreseen(alloc, state, call)?),
         Question::History => Ok(history_text(alloc, history)?),
         Question::Keep => Ok(counted_text(alloc, "keep", kept_text(alloc, history))?),
+        Question::About(name) => Ok(render_about(alloc, notes, name)?),
         Question::Help(topic) => Ok(render_help(alloc, state.limits(), *topic)?),
     }
 }

@@ -109,6 +109,10 @@ fn plain_question(word: &[u8], words: &[&[u8]]) -> Result<Option<Question>, Scri
         let topic = help_topic(words)?;
         return Ok(Some(Question::Help(topic)));
     }
+    if is_word(word, b"about") {
+        let name = branch_alone(words)?;
+        return Ok(Some(Question::About(name)));
+    }
     Ok(None)
 }
 

@@ -1,6 +1,7 @@
 //! The questions of a conversation.
 use camp_base::{Name, Path};
 use camp_call::{Call, Names};
+use camp_notes::Note;
 
 /// A question. It changes nothing.
 #[derive(Debug, Drop)]
@@ -36,6 +37,8 @@ pub enum Question {
     History,
     /// A script that restores the repository.
     Keep,
+    /// The note of a patch.
+    About(Name),
     /// The forms of commands, or the meanings of refusals.
     Help(Topic),
 }
@@ -69,6 +72,8 @@ pub enum Topic {
     Why,
     History,
     Keep,
+    Note,
+    About,
     Help,
 }
 
@@ -97,6 +102,8 @@ pub(crate) enum ParsedCommand {
     Nothing,
     Call(Call),
     Question(Question),
+    /// A note, which is added.
+    Note(Note),
     /// The diagnostic of the last fault or refusal.
     Why,
 }

@@ -1,8 +1,10 @@
 //! Whether a command is ready to be read.
+use crate::note_lines::begins_note;
 use bstr::ByteSlice;
 
 /// True only if bytes begin with a complete command: one line, or a line with its whole body or group. If false, they
-/// may begin with one all the same. Only a line with the word `edit` or `group` is followed by lines that belong to it.
+/// may begin with one all the same. Only a line with the word `edit` or `group`, or one that begins a note,
+/// is followed by lines that belong to it.
 pub(crate) fn begin_with_command(bytes: &[u8]) -> bool {
     let Some(feed) = bytes.find(b"\n") else {
         return false;
@@ -11,7 +13,8 @@ pub(crate) fn begin_with_command(bytes: &[u8]) -> bool {
     if line.find(b"group").is_some() {
         return have_group(rest);
     }
-    line.find(b"edit").is_none() || rest.find(b"\nend\n").is_some()
+    let has_body = line.find(b"edit").is_some() || begins_note(line);
+    !has_body || rest.find(b"\nend\n").is_some()
 }
 
 // A line `done` that comes after a line `end` ends a group, whatever comes before; the first `done` ends it too if

@@ -5,12 +5,13 @@ ghost use Rattle.camp_script.specs.Gives.{Gives};
 ghost use Rattle.camp_script.specs.Lines.{is_skipped, lines_of, words_of};
 ghost use Rattle.camp_talk.specs.Parsing.{first_of, parsed_lines};
 ghost use Rattle.camp_talk.specs.Cutting.{script_in};
-ghost use Rattle.camp_talk.specs.Inside.Parts.{IsLonger, IsReading, ReadsHeld, ReadsNext, StopsAtLine};
+ghost use Rattle.camp_talk.specs.Inside.Parts.{IsLonger, IsReading, ReadsBody, ReadsHeld, ReadsNext, StopsAtLine, StopsInBody};
 ghost use Rattle.camp_talk.specs.Talks.{ReadsWithin};
 ghost use Rattle.camp_talk.specs.declared.questions.ParsedCommand.{ParsedCommand as SpecParsedCommand};
 
 use crate::TalkFault;
 use crate::lines::{last_line, read_line};
+use crate::note_lines::{begins_note, ends_note, parse_note};
 use crate::parsing::{first_line, is_skipped, parse_command};
 use crate::questions::ParsedCommand;
 use bstr::ByteSlice;
@@ -51,16 +52,32 @@ pub(crate) fn read_command<R: BufRead>(alloc: Global, reader: &mut R) -> Result<
         is_whole,
         script,
     } = read_lines(alloc, reader)?;
-    let parsed = if is_skipped(first_line(&bytes)) {
-        Ok(ParsedCommand::Nothing)
-    } else {
-        parse_command(alloc, &bytes, script)
-    };
+    let parsed = parse_lines(alloc, &bytes, script);
     Ok(Command {
         bytes,
         is_whole,
         parsed,
     })
+}
+
+// Parses the lines of a command, given the script of its call.
+fn parse_lines(
+    alloc: Global,
+    bytes: &[u8],
+    script: Result<Script, ScriptFault>,
+) -> Result<ParsedCommand, ScriptFault>
+    requires { Gives script (script_in (lines_of bytes.now)) }
+    ensures parsed { Gives result (parsed_lines (lines_of bytes.now)) }
+    ensures silent { is_skipped (words_of (first_of (lines_of bytes.now))) ≡ true → result ≡ Ok SpecParsedCommand.Nothing }
+{
+    let first = first_line(bytes);
+    if is_skipped(first) {
+        return Ok(ParsedCommand::Nothing);
+    }
+    if begins_note(first) {
+        return Ok(ParsedCommand::Note(parse_note(alloc, bytes)?));
+    }
+    parse_command(alloc, bytes, script)
 }
 
 // Reads the lines of a command.
@@ -73,6 +90,9 @@ fn read_lines<R: BufRead>(alloc: Global, reader: &mut R) -> Result<Lines, TalkFa
 {
     let mut bytes = Vec::new(alloc);
     let mut is_whole = read_line(reader, &mut bytes)?;
+    if begins_note(first_line(&bytes)) {
+        is_whole = is_whole && read_body(reader, &mut bytes)?;
+    }
     let Ok(mut command) = CommandLines::new(alloc, call_part(first_line(&bytes))) else {
         return Err(TalkFault::Memory);
     };
@@ -84,6 +104,22 @@ fn read_lines<R: BufRead>(alloc: Global, reader: &mut R) -> Result<Lines, TalkFa
         is_whole,
         script: command.finish(),
     })
+}
+
+// Reads the body of a note, up to `end`. True if it has ended with a line feed, false if the input has ended.
+fn read_body<R: BufRead>(reader: &mut R, bytes: &mut Vec<u8>) -> Result<bool, TalkFault>
+    ensures body { IfOk result (λ whole. ReadsBody (R.remaining reader.old) (R.remaining reader.new) whole bytes.old.items bytes.new.items) }
+    ensures fault { IfErr result IsReading }
+    ensures stops { IfErr result (λ why. StopsInBody (R.remaining reader.old) (R.remaining reader.new)) }
+{
+    let mut start = bytes.len();
+    while read_line(reader, bytes)? {
+        if ends_note(last_line(bytes, start)) {
+            return Ok(true);
+        }
+        start = bytes.len();
+    }
+    Ok(false)
 }
 
 // Reads the next line of a command. True if it has a line feed, false if the input has ended.

@@ -11,12 +11,13 @@ use crate::lines::hold;
 use crate::responses::Response;
 use crate::talks::execute_next;
 use crate::{Diagnostic, TalkFault};
+use camp_notes::NoteLog;
 use camp_repo::{Book, State};
 use std::alloc::Global;
 use std::io::BufRead;
 
 /// Executes a request and appends its answer: that of a conversation of exactly these bytes, which begins at
-/// the book as it is. A body or a group that has not ended has its fault; an empty request has an empty
+/// the book and the notes as they are. A body or a group that has not ended has its fault; an empty request has an empty
 /// answer; several commands have their answers in order. Lines count from the start of the request.
 ///
 /// `executed` becomes the number of commands that are settled, each blank line and comment among them: each was
@@ -25,32 +26,42 @@ use std::io::BufRead;
 pub fn answer_request(
     alloc: Global,
     book: &mut Book<State>,
+    notes: &mut NoteLog,
     request: &[u8],
     executed: &mut usize,
     answer: &mut Vec<u8>,
 ) -> Result<(), TalkFault>
     ensures answers { IfOk result (λ _. (text : List ℕ) × (answer.new.items ≡ answer.old.items ++ text)
-        × AnswersRequest book.old request.now text book.new) }
+        × AnswersRequest (record { history = book.old; notes = notes.old }) request.now text (record { history = book.new; notes = notes.new })) }
     ensures all_executed { OnOk result (HasCommands request.now executed.new) }
     ensures some_executed { IfErr result (λ why. (text : List ℕ) × (answer.new.items ≡ answer.old.items ++ text)
-        × AnswersSome book.old request.now text book.new executed.new) }
+        × AnswersSome (record { history = book.old; notes = notes.old }) request.now text (record { history = book.new; notes = notes.new }) executed.new) }
     ensures unanswered { IfErr result IsUnanswered }
 {
     let mut diagnostic = Diagnostic::new();
-    answer_commands(alloc, book, &mut diagnostic, request, executed, answer)
+    answer_commands(
+        alloc,
+        book,
+        notes,
+        &mut diagnostic,
+        request,
+        executed,
+        answer,
+    )
 }
 
 /// Executes a request as `answer_request` does, and returns its answer.
 pub fn answer_alone(
     alloc: Global,
     book: &mut Book<State>,
+    notes: &mut NoteLog,
     request: &[u8],
 ) -> Result<Vec<u8>, TalkFault>
-    ensures { AnswersFrame book.old request.now result book.new }
+    ensures { AnswersFrame (record { history = book.old; notes = notes.old }) request.now result (record { history = book.new; notes = notes.new }) }
 {
     let mut executed = 0;
     let mut answer = Vec::new(alloc);
-    answer_request(alloc, book, request, &mut executed, &mut answer)?;
+    answer_request(alloc, book, notes, request, &mut executed, &mut answer)?;
     Ok(answer)
 }
 
@@ -58,6 +69,7 @@ pub fn answer_alone(
 fn answer_commands(
     alloc: Global,
     book: &mut Book<State>,
+    notes: &mut NoteLog,
     diagnostic: &mut Diagnostic,
     request: &[u8],
     executed: &mut usize,
@@ -65,10 +77,10 @@ fn answer_commands(
 ) -> Result<(), TalkFault>
     requires { diagnostic.old ≡ no_diagnostic }
     ensures answers { IfOk result (λ _. (text : List ℕ) × (answer.new.items ≡ answer.old.items ++ text)
-        × AnswersRequest book.old request.now text book.new) }
+        × AnswersRequest (record { history = book.old; notes = notes.old }) request.now text (record { history = book.new; notes = notes.new })) }
     ensures all_executed { OnOk result (HasCommands request.now executed.new) }
     ensures some_executed { IfErr result (λ why. (text : List ℕ) × (answer.new.items ≡ answer.old.items ++ text)
-        × AnswersSome book.old request.now text book.new executed.new) }
+        × AnswersSome (record { history = book.old; notes = notes.old }) request.now text (record { history = book.new; notes = notes.new }) executed.new) }
     ensures unanswered { IfErr result IsUnanswered }
 {
     let mut reader = request;
@@ -76,7 +88,15 @@ fn answer_commands(
     *executed = 0;
     loop {
         let after = executed.saturating_add(one_unless_empty(reader));
-        match append_step(alloc, book, &mut lines, diagnostic, &mut reader, answer) {
+        match append_step(
+            alloc,
+            book,
+            notes,
+            &mut lines,
+            diagnostic,
+            &mut reader,
+            answer,
+        ) {
             Ok(true) => *executed = after,
             Ok(false) => {
                 *executed = after;
@@ -114,17 +134,18 @@ pub(crate) enum Halt {
 fn append_step<R: BufRead>(
     alloc: Global,
     book: &mut Book<State>,
+    notes: &mut NoteLog,
     lines: &mut u64,
     diagnostic: &mut Diagnostic,
     reader: &mut R,
     answer: &mut Vec<u8>,
 ) -> Result<bool, Halt>
     ensures appends { AppendsStep (R.remaining reader.old) (R.remaining reader.new) answer.old.items answer.new.items
-        (record { history = book.old; lines = lines.old; diagnostic = diagnostic.old })
-        result (record { history = book.new; lines = lines.new; diagnostic = diagnostic.new }) }
+        (record { recorded = record { history = book.old; notes = notes.old }; lines = lines.old; diagnostic = diagnostic.old })
+        result (record { recorded = record { history = book.new; notes = notes.new }; lines = lines.new; diagnostic = diagnostic.new }) }
     ensures counts { IfOk result (λ more. more ≡ true → HasGrown lines.old lines.new) }
 {
-    let executed = match execute_next(alloc, book, *lines, diagnostic, reader) {
+    let executed = match execute_next(alloc, book, notes, *lines, diagnostic, reader) {
         Ok(executed) => executed,
         Err(why) => return Err(Halt::Before(why)),
     };

@@ -9,6 +9,7 @@ use crate::answers::respond;
 use crate::readings::{Command, count_lines, read_command};
 use crate::responses::Response;
 use crate::{Diagnostic, TalkFault};
+use camp_notes::NoteLog;
 use camp_repo::{Book, State};
 use std::alloc::Global;
 use std::io::BufRead;
@@ -25,22 +26,23 @@ pub(crate) struct ExecutedCommand {
     pub(crate) is_whole: bool,
 }
 
-/// Reads a command and executes it on a book at seat 0, given the number of lines before it. If it has a fault or is
+/// Reads a command and executes it, a call on a book at seat 0, given the number of lines before it. If it has a fault or is
 /// refused, `diagnostic` becomes its diagnostic.
 pub(crate) fn execute_next<R: BufRead>(
     alloc: Global,
     book: &mut Book<State>,
+    notes: &mut NoteLog,
     lines: u64,
     diagnostic: &mut Diagnostic,
     reader: &mut R,
 ) -> Result<ExecutedCommand, TalkFault>
     ensures executes_next { IfOk result (λ executed. ExecutesNext (R.remaining reader.old) (R.remaining reader.new)
-        (record { history = book.old; lines = lines; diagnostic = diagnostic.old }) executed.is_whole executed.response
-        (record { history = book.new; lines = executed.lines; diagnostic = diagnostic.new })) }
+        (record { recorded = record { history = book.old; notes = notes.old }; lines = lines; diagnostic = diagnostic.old }) executed.is_whole executed.response
+        (record { recorded = record { history = book.new; notes = notes.new }; lines = executed.lines; diagnostic = diagnostic.new })) }
     ensures line { IfOk result (λ executed. executed.line ≡ lines + 1) }
     ensures none { IfErr result (ReadsNone (R.remaining reader.old) (R.remaining reader.new)
-        (record { history = book.old; lines = lines; diagnostic = diagnostic.old })) }
-    ensures same { IfErr result (λ why. (book.new ≡ book.old) × (diagnostic.new ≡ diagnostic.old)) }
+        (record { recorded = record { history = book.old; notes = notes.old }; lines = lines; diagnostic = diagnostic.old })) }
+    ensures same { IfErr result (λ why. (book.new ≡ book.old) × (notes.new ≡ notes.old) × (diagnostic.new ≡ diagnostic.old)) }
 {
     let Some(line) = lines.checked_add(1) else {
         return Err(TalkFault::Internal);
@@ -51,7 +53,7 @@ pub(crate) fn execute_next<R: BufRead>(
     };
     let is_whole = command.is_whole;
     let mut after = lines;
-    let response = execute_command(alloc, book, &mut after, diagnostic, command)?;
+    let response = execute_command(alloc, book, notes, &mut after, diagnostic, command)?;
     Ok(ExecutedCommand {
         response,
         line,
@@ -60,26 +62,27 @@ pub(crate) fn execute_next<R: BufRead>(
     })
 }
 
-/// Executes a command that was read on a book at seat 0. `lines` counts the lines up to it. If it has a fault or is
+/// Executes a command that was read: a call on a book at seat 0; a note is added to the notes. `lines` counts the lines up to it. If it has a fault or is
 /// refused, `diagnostic` becomes its diagnostic.
 pub fn execute_command(
     alloc: Global,
     book: &mut Book<State>,
+    notes: &mut NoteLog,
     lines: &mut u64,
     diagnostic: &mut Diagnostic,
     command: Command,
 ) -> Result<Response, TalkFault>
-    ensures executes { ExecutesCommand (record { history = book.old; lines = lines.old; diagnostic = diagnostic.old }) command
-        result (record { history = book.new; lines = lines.new; diagnostic = diagnostic.new }) }
+    ensures executes { ExecutesCommand (record { recorded = record { history = book.old; notes = notes.old }; lines = lines.old; diagnostic = diagnostic.old }) command
+        result (record { recorded = record { history = book.new; notes = notes.new }; lines = lines.new; diagnostic = diagnostic.new }) }
     ensures responds { IfOk result (λ response. (bytes : List ℕ) → IsReadAs command bytes
-        → IsResponse (record { history = book.old; lines = lines.old; diagnostic = diagnostic.old }) bytes response book.new diagnostic.new) }
+        → IsResponse (record { recorded = record { history = book.old; notes = notes.old }; lines = lines.old; diagnostic = diagnostic.old }) bytes response (record { history = book.new; notes = notes.new }) diagnostic.new) }
     ensures counts { IfOk result (λ response. lines.new ≡ lines.old + length (lines_of command.bytes.items)) }
 {
     let Some(after) = lines.checked_add(count_lines(&command.bytes)) else {
         drop(command);
         return Err(TalkFault::Internal);
     };
-    let response = respond(alloc, book, *lines, diagnostic, command);
+    let response = respond(alloc, book, notes, *lines, diagnostic, command);
     *lines = after;
     Ok(response)
 }

@@ -16,6 +16,7 @@ use crate::questions::{ParsedCommand, Question};
 use crate::readings::{Command, count_lines, read_command};
 use crate::responses::fault_text;
 use crate::{State, TalkFault};
+use camp_notes::NoteLog;
 use camp_repo::{Call, Decided};
 use camp_script::{ScriptFault, answer_text};
 use itoa::Buffer;
@@ -122,7 +123,7 @@ fn show(
         Ok(ParsedCommand::Nothing) => Ok(Vec::new(alloc)),
         Ok(ParsedCommand::Call(call)) => show_reply(alloc, state, before, call),
         Ok(ParsedCommand::Question(question)) => show_answer_of(alloc, state, before, question),
-        Ok(ParsedCommand::Why) => beyond_text(alloc, before),
+        Ok(ParsedCommand::Why | ParsedCommand::Note(_)) => beyond_text(alloc, before),
         Err(ScriptFault::Line(fault)) => fault_text(alloc, before, fault.line, fault.kind),
         Err(ScriptFault::Memory) => Err(AllocError),
     }
@@ -154,8 +155,8 @@ fn show_answer_of(
     ensures { IfOk result (λ text. ShowsAnswer state.now before (Ok (SpecParsedCommand.Question question.now)) text.items) }
 {
     match question {
-        Question::History | Question::Keep => beyond_text(alloc, before),
-        other => text_at(alloc, &[], state, other),
+        Question::History | Question::Keep | Question::About(_) => beyond_text(alloc, before),
+        other => text_at(alloc, &[], &NoteLog::new(alloc), state, other),
     }
 }
 

@@ -2,7 +2,7 @@
 
 use bstr::ByteSlice;
 use camp_talk::{
-    Book, FrameFault, FramedConversation, Frames, GroupLimits, Lines, Stop, TalkFault, run,
+    Book, FrameFault, FramedConversation, Frames, GroupLimits, Lines, NoteLog, Stop, TalkFault, run,
 };
 use std::alloc::{AllocError, Global};
 use std::io::{BufReader, ErrorKind, Write};
@@ -99,7 +99,7 @@ impl Conversation {
         let reader = BufReader::new(alloc, Reader::new(&self.commands, self.sizes))?;
         match self.framing {
             Framing::Lines => {
-                let mut backend = camp_talk::Conversation::new(alloc, book);
+                let mut backend = camp_talk::Conversation::new(alloc, book, NoteLog::new(alloc));
                 let mut lines = Lines::new(alloc, reader);
                 Ok(
                     match run(alloc, &mut backend, &mut lines, writer, ONE_BY_ONE) {
@@ -109,7 +109,7 @@ impl Conversation {
                 )
             }
             Framing::Frames => {
-                let mut backend = FramedConversation::new(alloc, book);
+                let mut backend = FramedConversation::new(alloc, book, NoteLog::new(alloc));
                 let mut frames = Frames::new(alloc, reader);
                 Ok(
                     match run(alloc, &mut backend, &mut frames, writer, ONE_BY_ONE) {

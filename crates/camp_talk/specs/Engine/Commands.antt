@@ -1,11 +1,12 @@
 -- Commands and framed requests, as a backend executes them and a framing reads them.
 use Rattle.std.specs.Prelude.{◌≡◌, ◌^◌, ◌+◌, ◌≤◌, ℕ, Bool, true, false, not, List, length, Option, Result, Ok, Err, Vec}
 use Rattle.camp_object.specs.Books.{IsEarlier}
+use Rattle.camp_object.specs.Histories.{IsBeginning}
 use Rattle.camp_script.specs.Gives.{Gives}
 use Rattle.camp_script.specs.Lines.{lines_of}
 use Rattle.camp_talk.specs.Answers.{AnswersCommand, SessionState, is_silent}
 use Rattle.camp_talk.specs.Cutting.{lines_in}
-use Rattle.camp_talk.specs.Entries.{Entries}
+use Rattle.camp_talk.specs.Entries.{Recorded}
 use Rattle.camp_talk.specs.Inside.Parts.{IsReading}
 use Rattle.camp_talk.specs.Inside.Responses.{written}
 use Rattle.camp_talk.specs.Parsing.{parsed_command}
@@ -36,16 +37,21 @@ pub record ReadsNextCommand (remaining rest : Option (List ℕ)) (ended : Bool) 
 abbrev pub BreaksBefore : Option (List ℕ) → Option (List ℕ) → TalkFault → Type 0
 BreaksBefore remaining rest why = IsReading why × ReadsWithin remaining rest
 
--- a command that was read is executed. Ok: it is answered, and no call is removed from the history. An error: nothing has
+-- what was recorded was only added to
+pub record IsLater (before after : Recorded) : Type 0 where
+  pub history : IsEarlier before.history after.history
+  pub notes : IsBeginning before.notes after.notes
+
+-- a command that was read is executed. Ok: it is answered, and no call and no note is removed. An error: nothing has
 -- changed, and the line after it would have the number 2^64.
 abbrev pub ExecutesCommand : SessionState → Command → Result Response TalkFault → SessionState → Type 0
 ExecutesCommand before command (Ok response) after =
-    ((bytes : List ℕ) → IsReadAs command bytes → AnswersCommand before bytes (written response) after) × IsEarlier before.history after.history
+    ((bytes : List ℕ) → IsReadAs command bytes → AnswersCommand before bytes (written response) after) × IsLater before.recorded after.recorded
 ExecutesCommand before command (Err why) after =
     (why ≡ fault.Internal) × (after ≡ before) × (2 ^ 64 ≤ before.lines + length (lines_of command.bytes.items))
 
 -- a request in a frame is executed. Ok: it is answered. An error: exactly its first commands were executed.
-abbrev pub AnswersFrame : {Z : Type 0} → Entries → List ℕ → Result (Vec ℕ Z) TalkFault → Entries → Type 0
+abbrev pub AnswersFrame : {Z : Type 0} → Recorded → List ℕ → Result (Vec ℕ Z) TalkFault → Recorded → Type 0
 AnswersFrame before request (Ok answer) after = AnswersRequest before request answer.items after
 AnswersFrame before request (Err why) after =
     IsUnanswered why × (text : List ℕ) × (executed : ℕ) × AnswersSome before request text after executed

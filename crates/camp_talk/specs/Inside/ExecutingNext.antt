@@ -5,6 +5,8 @@ use Rattle.camp_call.specs.declared.calls.Call.{Call}
 use Rattle.camp_call.specs.declared.replies.Refusal.{Refusal}
 use Rattle.camp_call.specs.declared.replies.Reply.{Reply}
 use Rattle.camp_call.specs.declared.replies.Reply.TheVariants as reply
+use Rattle.camp_notes.specs.declared.logs.PlacedNote.{PlacedNote}
+use Rattle.camp_notes.specs.declared.notes.Note.{Note}
 use Rattle.camp_questions.specs.declared.faults.Unanswered.{Unanswered}
 use Rattle.camp_questions.specs.declared.faults.Unanswered.TheVariants as fault
 use Rattle.camp_repo.specs.States.{Contents}
@@ -14,8 +16,9 @@ use Rattle.camp_script.specs.declared.faults.LineFault.{LineFault}
 use Rattle.camp_talk.specs.Answers.{AnswersCommand, AnswersParsed, Replies, SessionState, UpdatesDiagnostic, is_silent, reports_failure}
 use Rattle.camp_talk.specs.Cutting.{IsCommand, lines_in}
 use Rattle.camp_talk.specs.Diagnostics.{Diagnostic, refused_diagnostic}
-use Rattle.camp_talk.specs.Entries.{Entries}
+use Rattle.camp_talk.specs.Entries.{Entries, Recorded}
 use Rattle.camp_talk.specs.Inside.Responses.{IsFailureOf}
+use Rattle.camp_talk.specs.Notes.{noted, noted_answer}
 use Rattle.camp_talk.specs.Loads.{Ends, ReportsSuccess}
 use Rattle.camp_talk.specs.Parsing.{parsed_command}
 use Rattle.camp_talk.specs.Talks.{Exchange, ReadsCommand}
@@ -27,11 +30,17 @@ use Rattle.camp_talk.specs.declared.responses.Response.TheVariants.{Done, Failed
 
 -- the result of executing a request: it was done, and this is its answer; or it is refused, or memory ran out, and
 -- nothing has changed
-abbrev pub ExecutesRequest : {Z : Type 0} → SessionState → ParsedCommand → Result (Vec ℕ Z) Unanswered → Entries → Type 0
+abbrev pub ExecutesRequest : {Z : Type 0} → SessionState → ParsedCommand → Result (Vec ℕ Z) Unanswered → Recorded → Type 0
 ExecutesRequest before request (Ok text) now = AnswersParsed before (Ok request) text.items now × (reports_failure text.items ≡ false)
 ExecutesRequest before request (Err (fault.Refused refusal)) now =
-    AnswersParsed before (Ok request) (reply_text (reply.Refused refusal)) now × (now ≡ before.history)
-ExecutesRequest before request (Err fault.Memory) now = now ≡ before.history
+    AnswersParsed before (Ok request) (reply_text (reply.Refused refusal)) now × (now ≡ before.recorded)
+ExecutesRequest before request (Err fault.Memory) now = now ≡ before.recorded
+
+-- the result of adding a note to what was recorded: it was added, or memory ran out and nothing has changed
+abbrev pub AddsNote : {Z : Type 0} → Recorded → Note → Result (Vec ℕ Z) Unanswered → List PlacedNote → Type 0
+AddsNote before note (Ok text) notes = (text.items ≡ noted_answer) × (notes ≡ (noted before note).notes)
+AddsNote before note (Err (fault.Refused refusal)) notes = ⊥
+AddsNote before note (Err fault.Memory) notes = notes ≡ before.notes
 
 -- the result of executing a call, in the same cases
 abbrev pub RepliesTo : {Z : Type 0} → Entries → Call → Result (Vec ℕ Z) Unanswered → Entries → Type 0
@@ -62,17 +71,17 @@ RefusesRequest state before line request refusal (Failed why text) after =
 RefusesRequest state before line request refusal OutOfMemory after = after ≡ before
 
 -- the text answers the command, and the diagnostic is the one after it
-abbrev pub AnswersWith : SessionState → List (List ℕ) → Result ParsedCommand LineFault → List ℕ → Entries → Diagnostic → Type 0
+abbrev pub AnswersWith : SessionState → List (List ℕ) → Result ParsedCommand LineFault → List ℕ → Recorded → Diagnostic → Type 0
 AnswersWith before lines parsed text now diagnostic = AnswersParsed before parsed text now × UpdatesDiagnostic before lines parsed text diagnostic
 
 -- the response to a command, by its lines and its parsed form: it was done; or it was not done, for this reason, and the
 -- history stays; or memory ran out, and nothing has changed
-abbrev pub RespondsTo : SessionState → List (List ℕ) → Result ParsedCommand LineFault → Response → Entries → Diagnostic → Type 0
+abbrev pub RespondsTo : SessionState → List (List ℕ) → Result ParsedCommand LineFault → Response → Recorded → Diagnostic → Type 0
 RespondsTo before lines parsed (Done text) now diagnostic =
     AnswersWith before lines parsed text.items now diagnostic × (reports_failure text.items ≡ false)
 RespondsTo before lines parsed (Failed why text) now diagnostic =
-    AnswersWith before lines parsed text.items now diagnostic × IsFailureOf parsed why text.items × (now ≡ before.history)
-RespondsTo before lines parsed OutOfMemory now diagnostic = (now ≡ before.history) × (diagnostic ≡ before.diagnostic)
+    AnswersWith before lines parsed text.items now diagnostic × IsFailureOf parsed why text.items × (now ≡ before.recorded)
+RespondsTo before lines parsed OutOfMemory now diagnostic = (now ≡ before.recorded) × (diagnostic ≡ before.diagnostic)
 
 -- if memory ran out, the command asks something
 abbrev pub UnlessSilent : List ℕ → Response → Type 0
@@ -81,7 +90,7 @@ UnlessSilent command (Failed why text) = Unit {0}
 UnlessSilent command OutOfMemory = is_silent command ≡ false
 
 -- the same of a command, by its bytes; memory ran out only if it asks something
-abbrev pub IsResponse : SessionState → List ℕ → Response → Entries → Diagnostic → Type 0
+abbrev pub IsResponse : SessionState → List ℕ → Response → Recorded → Diagnostic → Type 0
 IsResponse before command response now diagnostic =
     RespondsTo before (lines_in command) (parsed_command command) response now diagnostic × UnlessSilent command response
 
@@ -90,7 +99,7 @@ module _ (remaining rest : Option (List ℕ)) (before : SessionState) where
   pub record ExecutesNext (whole : Bool) (response : Response) (after : SessionState) : Type 0 where
     pub command : List ℕ
     pub reads : ReadsCommand remaining rest whole command
-    pub says : IsResponse before command response after.history after.diagnostic
+    pub says : IsResponse before command response after.recorded after.diagnostic
     pub counts : after.lines ≡ before.lines + length (lines_of command)
 
   -- a complete command was read, and was done
@@ -104,5 +113,5 @@ module _ (remaining rest : Option (List ℕ)) (before : SessionState) where
   -- one command was loaded: it was done, and there may be more, or the input has ended
   abbrev pub LoadsOne : Result Bool LoadFault → SessionState → Type 0
   LoadsOne (Ok true) after = DoesOne after
-  LoadsOne (Ok false) after = Ends remaining rest before (Ok tt) after.history
-  LoadsOne (Err why) after = Ends remaining rest before (Err why) after.history
+  LoadsOne (Ok false) after = Ends remaining rest before (Ok tt) after.recorded
+  LoadsOne (Err why) after = Ends remaining rest before (Err why) after.recorded

@@ -3,9 +3,10 @@ use Rattle.std.specs.Prelude.{◌≡◌, ◌==◌, ◌^◌, ◌<◌, ◌≤◌, 
 use Rattle.std.specs.List.{All, flat_map}
 use Rattle.std.specs.Io.KnownBytes.{Consumes, IsAtEnd}
 use Rattle.camp_base.specs.Signs.{newline}
-use Rattle.camp_script.specs.CommandLines.{HasRead}
+use Rattle.camp_script.specs.CommandLines.{HasRead, wanted_lines}
 use Rattle.camp_script.specs.Lines.{lines_of}
 use Rattle.camp_script.specs.declared.command_lines.CommandLines.{CommandLines}
+use Rattle.camp_script.specs.declared.grouping.Expected.TheVariants.{Body}
 use Rattle.camp_talk.specs.Cutting.{IsLine, as_read, lines_in}
 use Rattle.camp_talk.specs.declared.faults.TalkFault.{TalkFault}
 use Rattle.camp_talk.specs.declared.faults.TalkFault.TheVariants.{Internal, Memory, Read, Write}
@@ -93,6 +94,24 @@ module _ (remaining rest : Option (List ℕ)) where
   ReadsNext true old new before after = (line : List ℕ) × ReadsLines old new (line ∷ []) [] × GoesOn before after (line ∷ [])
   ReadsNext false old new before after =
       (last : List ℕ) × ReadsLines old new [] last × GoesOn before after (with_last [] last) × Ends
+
+  -- these lines are a whole body of a note, whatever follows; or the input has ended, and they may be the first ones
+  abbrev pub EndsBody : Bool → List (List ℕ) → List ℕ → Type 0
+  EndsBody true lines last = (last ≡ []) × ((others : List (List ℕ)) → wanted_lines Body (lines ++ others) ≡ lines)
+  EndsBody false lines last = (wanted_lines Body (with_last lines last) ≡ with_last lines last) × Ends
+
+  -- the body of a note was read, and appended as it is read
+  pub record ReadsBody (whole : Bool) (old new : List ℕ) : Type 0 where
+    pub lines : List (List ℕ)
+    pub last : List ℕ
+    pub reads : ReadsLines old new lines last
+    pub ends : EndsBody whole lines last
+
+  -- at most the body of a note was read
+  pub record StopsInBody : Type 0 where
+    pub some : List ℕ
+    pub reads : Consumes remaining rest some
+    pub is : wanted_lines Body (lines_in some) ≡ lines_in some
 
   -- a command was read, and `bytes` are its lines, as they are read
   pub record ReadsHeld (whole : Bool) (held : List ℕ) : Type 0 where

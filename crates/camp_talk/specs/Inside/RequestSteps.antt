@@ -29,14 +29,14 @@ module _ (remaining rest : Option (List ℕ)) (old new : List ℕ) (before : Ses
   pub record StopsBefore (why : TalkFault) (after : SessionState) : Type 0 where
     pub none : IsNotExecuted why
     pub kept : new ≡ old
-    pub same : after.history ≡ before.history
+    pub same : after.recorded ≡ before.recorded
 
   -- a command was read and executed, and its answer is not there
   pub record StopsAfter (after : SessionState) : Type 0 where
     pub whole : Bool
     pub exchange : Exchange
     pub reads : ReadsCommand remaining rest whole exchange.command
-    pub reports : AnswersParsed before (parsed_command exchange.command) exchange.answer after.history
+    pub reports : AnswersParsed before (parsed_command exchange.command) exchange.answer after.recorded
     pub kept : new ≡ old
 
   -- the step of one command of a request

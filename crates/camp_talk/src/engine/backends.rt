@@ -25,7 +25,7 @@ pub trait Backend<Q, A> {
     // The relation of a commit: the state before it, its result, and the state after it.
     ghost commits: { Self → Result (Unit {0}) Self.CommitFault → Self → Type 0 };
 
-    // The number of calls that are not known to be durable.
+    // The number of calls and notes that are not known to be durable.
     ghost waiting: { Self → ℕ };
 
     /// Executes a request.
@@ -36,7 +36,7 @@ pub trait Backend<Q, A> {
     fn commit(&mut self) -> Result<(), Self::CommitFault>
         ensures { commits self.old result self.new };
 
-    /// Returns the number of calls that are not known to be durable.
+    /// Returns the number of calls and notes that are not known to be durable.
     fn waiting(&self) -> usize
         ensures { result ≡ waiting self.now };
 

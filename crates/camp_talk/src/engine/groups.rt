@@ -7,7 +7,7 @@ use crate::engine::{Backend, Framing};
 /// The limits at which pending calls and responses are committed and written.
 #[derive(Clone, Copy, Debug)]
 pub struct GroupLimits {
-    /// The most calls that are not known to be durable.
+    /// The most calls and notes that are not known to be durable.
     pub calls: usize,
     /// The most bytes of responses.
     pub bytes: usize,

@@ -5,6 +5,7 @@ ghost use Rattle.camp_talk.specs.Sessions.{Asks, Views, new_repository};
 
 use crate::sessions::View;
 use crate::{TalkFault, answer_request};
+use camp_notes::NoteLog;
 use camp_repo::{Book, Limits, State, new_book};
 use std::alloc::{AllocError, Global};
 use std::marker::Model;
@@ -13,6 +14,7 @@ use std::marker::Model;
 #[derive(Drop)]
 pub struct Session {
     book: Book<State>,
+    notes: NoteLog,
     answer: Vec<u8>,
     /// How many commands of the last text are settled.
     executed: usize,
@@ -27,7 +29,7 @@ impl Model for Session {
 
     ghost coded = { Prim.hlevel (codes, code_of_sets) };
 
-    ghost view = { λ session. record { history = session.book; answer = session.answer.items; executed = session.executed } };
+    ghost view = { λ session. record { recorded = record { history = session.book; notes = session.notes }; answer = session.answer.items; executed = session.executed } };
 }
 
 impl Session {
@@ -45,6 +47,7 @@ impl Session {
         let book = new_book(alloc, limits)?;
         Ok(Session {
             book,
+            notes: NoteLog::new(alloc),
             answer: Vec::new(alloc),
             executed: 0,
         })
@@ -59,6 +62,7 @@ impl Session {
         answer_request(
             alloc,
             &mut self.book,
+            &mut self.notes,
             text,
             &mut self.executed,
             &mut self.answer,

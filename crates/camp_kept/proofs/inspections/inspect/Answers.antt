@@ -12,7 +12,7 @@ returns-in_err-reading-clause-refused c =
 
 pub returns-clause-decoded : goal.returns-clause-decoded
 returns-clause-decoded c = record {
-  stored = accepted_of c.in_ok-book.book;
+  stored = accepted_of c.in_ok-book.book c.in_ok-book.notes;
   accepted = record {
     range = c.in_ok-book.ensures.recovered.range;
     can = c.in_ok-book.ensures.recovered.can;
@@ -21,6 +21,7 @@ returns-clause-decoded c = record {
   texts = texts_of c.in_ok-reading.reading.texts.items;
   are = c.in_ok-book.ensures.recovered.are;
   count_is = ap length c.history.ensures.value ∙ counted c.in_ok-book.book.calls;
+  notes_are = ap length c.placed.ensures.exact;
   digest_is = c.in_ok-reading.ensures.reading.digest_is;
   leaves = c.torn_tail_len.ensures c.args.bytes.now c.in_ok-reading.ensures.reading c.in_ok-book.ensures.short;
 }

@@ -1,7 +1,8 @@
 use Rattle.std.proofs.Common.{rules, ◌≡◌, [], length, ap, subst, sym}
 use Rattle.std.proofs.lemmas.List.{nil_from_length}
 use Rattle.std.proofs.lemmas.Result.{IfErr-weaker, IfOk-weaker}
-use Rattle.camp_kept.specs.Persisting.{AreTexts, DecodesToCalls, store_texts}
+use Rattle.camp_kept.specs.Openings.{PersistsTitled}
+use Rattle.camp_kept.specs.Persisting.{AreTexts, DecodesToCalls}
 use Rattle.camp_kept.proofs.Opening.{no_calls}
 use Rattle.camp_store.specs.Logs.{PersistsTexts, texts_of}
 use Rattle.camp_kept.proofs.openings.ensure_title.Goals as goal
@@ -11,8 +12,8 @@ returns-clause-persists g c =
     let zero : length c.args.texts.now ≡ 0 = search rules in
     let none : texts_of c.args.texts.now ≡ [] = ap texts_of (nil_from_length c.args.texts.now zero) in
     IfOk-weaker c.append_title.result _ _
-    (λ new persists calls are before.
-    subst (λ l. PersistsTexts g.D.Disk.seen g.D.Disk.may_leave (store_texts l) new) (sym (no_calls c.args.limits calls (subst (λ ts. AreTexts c.args.limits ts calls) none are)))
+    (λ new persists before.
+    subst (λ ts. PersistsTitled g.D.Disk.seen g.D.Disk.may_leave c.args.limits ts new) (sym none)
     (persists (subst (λ ts. PersistsTexts g.D.Disk.seen g.D.Disk.may_leave ts c.args.log) none before)))
     c.append_title.ensures.persists
 

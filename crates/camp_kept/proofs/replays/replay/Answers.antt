@@ -24,5 +24,5 @@ returns-clause-recovered c =
     let e : texts_of c.args.texts.now ≡ title_of limits ∷ others =
     ap texts_of c.in-Some.ensures.cases.0 ∙ ap (λ t. t ∷ others) (sym c.deref.ensures.value ∙ sym says.0) in
     IfOk-weaker c.replay_all.result _ _
-    (λ history asked. subst (λ ts. AreRecovered c.args.wanted.now ts history) (sym e) (recovered c.args.wanted.now limits others history says.1 c.in_ok-limits.ensures.wanted asked))
+    (λ r asked. subst (λ ts. AreRecovered c.args.wanted.now ts r.0 r.1) (sym e) (recovered c.args.wanted.now limits others r.0 r.1 says.1 c.in_ok-limits.ensures.wanted asked))
     c.replay_all.ensures.texts

@@ -8,5 +8,6 @@ use Rattle.camp_kept.proofs.replays.replay_each.Given as goal
 
 abbrev pub invariant-loop-text : goal.invariant-loop-text
 invariant-loop-text l =
-    AreReplayed l.fn.book.first.limits (texts_of (take l.text-index l.texts)) l.book
+    AreReplayed l.fn.book.first.limits (texts_of (take l.text-index l.texts)) l.book l.notes
+    × ReportsNumber l.call (length (texts_of (take l.text-index l.texts)) + 1)
     × ReportsNumber l.at (27 + length (title_of l.fn.book.first.limits) + size (texts_of (take l.text-index l.texts)))

@@ -1,10 +1,11 @@
 use Rattle.std.proofs.Common.{◌≡◌, ◌≤◌, ◌∙◌, List, ℕ, IsTrue, length, ap, subst, sym, arith}
 use Rattle.camp_kept.specs.Accepting.{StoreContents, accepted_of}
-use Rattle.camp_kept.specs.Persisting.{AreTexts, DecodesToCalls, max_untitled_len, store_texts}
+use Rattle.camp_kept.specs.Openings.{PersistsTitled}
+use Rattle.camp_kept.specs.Persisting.{AreTexts, DecodesToCalls, max_untitled_len}
 use Rattle.camp_kept.specs.Titles.{new_limits}
-use Rattle.camp_kept.proofs.Committing.{counted}
+use Rattle.camp_kept.proofs.Committing.{counted, store_decodes}
 use Rattle.camp_kept.proofs.Listing.{legal_alone}
-use Rattle.camp_kept.proofs.Opening.{as_read, decoded_again, decoded_short, decodes_too, no_bytes}
+use Rattle.camp_kept.proofs.Opening.{as_read, decoded_short, decodes_too, no_bytes}
 use Rattle.camp_kept.proofs.Preserving.{recovered_unrefused}
 use Rattle.camp_kept.proofs.Refusing.{unclosed_unopened, untitled_unopened}
 use Rattle.camp_repo.specs.Limits.{Bounds}
@@ -29,13 +30,12 @@ persists g c is =
 anew : (g : Over) (c : After-ensure_title g) (texts : List (List ℕ)) (stored : StoreContents) → AreTexts (new_limits c.args.wanted) texts stored → AreTexts c.new_limits.result texts stored
 anew g c texts stored are = subst (λ (limits : Bounds). AreTexts limits texts stored) (sym c.new_limits.ensures.exact) are
 
--- after the title it has those of the calls
-all : (g : Over) (c : In-Ok-ensure_title g) → PersistsTexts g.D.Disk.seen g.D.Disk.may_leave (texts_of c.deref.result.now) c.in-Ok-open.log → PersistsTexts g.D.Disk.seen g.D.Disk.may_leave (store_texts (accepted_of c.in-Ok.found.1)) c.in-Ok-ensure_title.log
+-- after the title it has those of a store
+all : (g : Over) (c : In-Ok-ensure_title g) → PersistsTexts g.D.Disk.seen g.D.Disk.may_leave (texts_of c.deref.result.now) c.in-Ok-open.log
+    → PersistsTitled g.D.Disk.seen g.D.Disk.may_leave (new_limits c.args.wanted) (texts_of c.in-Ok.found.0.texts.items) c.in-Ok-ensure_title.log
 all g c persists =
-    let stored = accepted_of c.in-Ok.found.1 in
-    let are : AreTexts (new_limits c.args.wanted) (texts_of c.deref.result.now) stored =
-    subst (λ ts. AreTexts (new_limits c.args.wanted) ts stored) (ap texts_of (sym c.deref.ensures.value)) c.in-Ok.ensures.recovered.are in
-    c.in-Ok-ensure_title.ensures.persists stored (subst (λ (limits : Bounds). AreTexts limits (texts_of c.deref.result.now) stored) (sym c.new_limits.ensures.exact) are) persists
+    subst (λ ts. PersistsTitled g.D.Disk.seen g.D.Disk.may_leave (new_limits c.args.wanted) ts c.in-Ok-ensure_title.log) (ap texts_of c.deref.ensures.value)
+    (subst (λ (limits : Bounds). PersistsTitled g.D.Disk.seen g.D.Disk.may_leave limits (texts_of c.deref.result.now) c.in-Ok-ensure_title.log) c.new_limits.ensures.exact (c.in-Ok-ensure_title.ensures.persists persists))
 
 pub returns-in-Err-open-clause-crash_err : goal.returns-in-Err-open-clause-crash_err
 returns-in-Err-open-clause-crash_err g c calls decoded clean f now =
@@ -55,27 +55,30 @@ returns-in-Ok-ensure_title-clause-persists g c clean =
     let at = goal.at.returns-in-Ok-ensure_title-clause-persists g c in
     let book = c.in-Ok.found.1 in
     let is = c.in-Ok.ensures.reading (subst (λ b. IsTrue b) (c.in-Ok-ensure_title.ensures.clean ∙ c.in-Ok-open.ensures.clean) clean) in
+    let titled = all g at.In-Ok-ensure_title (persists g at.After-ensure_title is) in
     record {
       accepted = record {
         range = c.in-Ok.ensures.recovered.range;
         can = c.in-Ok.ensures.recovered.can;
         legal = legal_alone book c.history-durable_count.ensures.first c.history-durable_count.ensures.legal;
       };
-      texts = all g at.In-Ok-ensure_title (persists g at.After-ensure_title is);
+      texts = record { texts = titled.all; are = titled.are (accepted_of book c.in-Ok.found.2) c.in-Ok.ensures.recovered.are; persists = titled.persists };
       count_is = ap length c.history-durable_count.ensures.value ∙ counted book.calls;
+      notes_is = ap length c.placed-durable_notes.ensures.exact;
     }
 
 pub returns-in-Ok-ensure_title-clause-crash : goal.returns-in-Ok-ensure_title-clause-crash
 returns-in-Ok-ensure_title-clause-crash g c calls decoded clean f now =
     let at = goal.at.returns-in-Ok-ensure_title-clause-crash g c in
     let reading = c.in-Ok.found.0 in
-    let others = accepted_of c.in-Ok.found.1 in
     let texts = texts_of reading.texts.items in
     let file = g.D.Disk.seen c.args.disk in
     let is = c.in-Ok.ensures.reading (subst (λ b. IsTrue b) (c.in-Ok-ensure_title.ensures.clean ∙ c.in-Ok-open.ensures.clean) clean) in
     let log = c.in-Ok-ensure_title.log in
-    decoded_again (new_limits c.args.wanted) texts calls others (as_read (new_limits c.args.wanted) texts calls file (reading_decodes file reading is) (decoded file (g.met.D.Disk.seen_may_stay c.args.disk))) c.in-Ok.ensures.recovered.are f
-    (log_decodes g.D.Disk.seen g.D.Disk.may_leave (store_texts others) (disk_of log) log.length log.digest (all g at.In-Ok-ensure_title (persists g at.After-ensure_title is)) f now)
+    let titled = all g at.In-Ok-ensure_title (persists g at.After-ensure_title is) in
+    store_decodes (new_limits c.args.wanted) calls titled.all f
+    (titled.are calls (as_read (new_limits c.args.wanted) texts calls file (reading_decodes file reading is) (decoded file (g.met.D.Disk.seen_may_stay c.args.disk))))
+    (log_decodes g.D.Disk.seen g.D.Disk.may_leave titled.all (disk_of log) log.length log.digest titled.persists f now)
 
 pub returns-clause-crash_err : goal.returns-clause-crash_err
 returns-clause-crash_err g c calls decoded clean f now =
@@ -105,9 +108,9 @@ returns-clause-refused g c clean =
 pub returns-in-Err-open-clause-preserved : goal.returns-in-Err-open-clause-preserved
 returns-in-Err-open-clause-preserved g c clean refused =
     let is = c.in-Ok.ensures.reading (subst (λ b. IsTrue b) c.in-Err-open.ensures.clean_err clean) in
-    absurd (recovered_unrefused c.args.wanted (g.D.Disk.seen c.args.disk) c.in-Ok.found.0 c.in-Ok.found.1 is c.in-Ok.ensures.short c.in-Ok.ensures.recovered c.history-durable_count.ensures.first c.history-durable_count.ensures.legal refused)
+    absurd (recovered_unrefused c.args.wanted (g.D.Disk.seen c.args.disk) c.in-Ok.found.0 c.in-Ok.found.1 c.in-Ok.found.2 is c.in-Ok.ensures.short c.in-Ok.ensures.recovered c.history-durable_count.ensures.first c.history-durable_count.ensures.legal refused)
 
 pub returns-clause-preserved : goal.returns-clause-preserved
 returns-clause-preserved g c clean refused =
     let is = c.in-Ok.ensures.reading (subst (λ b. IsTrue b) (c.in-Err-ensure_title.ensures.clean_err ∙ c.in-Ok-open.ensures.clean) clean) in
-    absurd (recovered_unrefused c.args.wanted (g.D.Disk.seen c.args.disk) c.in-Ok.found.0 c.in-Ok.found.1 is c.in-Ok.ensures.short c.in-Ok.ensures.recovered c.history-durable_count.ensures.first c.history-durable_count.ensures.legal refused)
+    absurd (recovered_unrefused c.args.wanted (g.D.Disk.seen c.args.disk) c.in-Ok.found.0 c.in-Ok.found.1 c.in-Ok.found.2 is c.in-Ok.ensures.short c.in-Ok.ensures.recovered c.history-durable_count.ensures.first c.history-durable_count.ensures.legal refused)
